@@ -1,0 +1,14 @@
+pub mod Words
+pub mod Truth
+pub mod Cutting
+pub mod Searching
+pub mod Leading
+pub mod Balance
+pub mod Programs
+pub mod Steps
+pub mod Runs
+pub mod Answers
+pub mod Around
+pub mod Calls
+pub mod Cases
+pub mod Demands

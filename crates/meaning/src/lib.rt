@@ -1,0 +1,1 @@
+// The meaning of the machine: definitions in specs/, theorems in proofs/, no code.
