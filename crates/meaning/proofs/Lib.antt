@@ -12,3 +12,4 @@ pub mod Around
 pub mod Calls
 pub mod Cases
 pub mod Demands
+pub mod Tables

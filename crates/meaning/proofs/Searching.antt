@@ -114,7 +114,7 @@ fronts-reach (bracket {n} {xs} {es} {zs} p q e) r =
 -- SOUND: each way is what it says ------------------------------------------
 
 -- a front that closes d brackets and has n terms after them
-Closing : ℕ → ℕ → List Element → Type 0
+unfoldable pub Closing : ℕ → ℕ → List Element → Type 0
 Closing zero n v = Terms n v
 Closing (suc d) n v = (m : ℕ) × (xs : List Element) × (es : List Element) × Terms m xs × Closing d n es × (v ≡ xs ++ ((5 ∷ []) ∷ es))
 
@@ -132,20 +132,20 @@ sound-push e ys d c g gs f (each {j} {v} {r} h q s) =
     each {v = e ∷ v} {r = r} (f j v h) (rw q) (rw gs at (sound-push e ys d c g gs f s))
 
 -- one more symbol, bracket or close in front of a closing front
-closing-symbol : (e : Element) → T (isSymbol e) → (d n : ℕ) (v : List Element) → Closing (suc d) n v → Closing (suc d) n (e ∷ v)
+pub closing-symbol : (e : Element) → T (isSymbol e) → (d n : ℕ) (v : List Element) → Closing (suc d) n v → Closing (suc d) n (e ∷ v)
 unfolding Closing
 closing-symbol e h d n v (m, xs, es, r, c, q) = (suc m, e ∷ xs, es, symbol h r, c, rw q)
 
-closing-open : (d n : ℕ) (v : List Element) → Closing (suc (suc d)) n v → Closing (suc d) n ((4 ∷ []) ∷ v)
+pub closing-open : (d n : ℕ) (v : List Element) → Closing (suc (suc d)) n v → Closing (suc d) n ((4 ∷ []) ∷ v)
 unfolding Closing
 closing-open d n v (m, xs, es, r, (m′, ys, fs, r′, c, q′), q) =
     (suc m′, (4 ∷ []) ∷ (xs ++ ((5 ∷ []) ∷ ys)), fs, bracket r r′ refl, c, rw (q, q′, append-assoc))
 
-closing-open₀ : (n : ℕ) (v : List Element) → Closing 1 n v → Closing 0 (suc n) ((4 ∷ []) ∷ v)
+pub closing-open₀ : (n : ℕ) (v : List Element) → Closing 1 n v → Closing 0 (suc n) ((4 ∷ []) ∷ v)
 unfolding Closing
 closing-open₀ n v (m, xs, es, r, c, q) = bracket r c q
 
-closing-close : (d n : ℕ) (v : List Element) → Closing d n v → Closing (suc d) n ((5 ∷ []) ∷ v)
+pub closing-close : (d n : ℕ) (v : List Element) → Closing d n v → Closing (suc d) n ((5 ∷ []) ∷ v)
 unfolding Closing
 closing-close d n v c = (0, [], v, stop, c, refl)
 

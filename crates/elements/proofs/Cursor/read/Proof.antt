@@ -1,0 +1,63 @@
+use Rattle.elements.proofs.Places.{read-unknown, read-high, read-short, read-got}
+use Rattle.elements.specs.Reading.{over}
+use native.Mathlib.Omega.{arith}
+use borrow.Author.Needs.{needs}
+use Rattle.elements.proofs.Cursor.read.Statement.{statement}
+use Rattle.elements.proofs.Cursor.read.Tie as tie
+
+returns : tie.Need-returns
+returns c = over (c .if1 .taken)
+
+shared-slice-read-k : tie.Need-shared-slice-read-k
+shared-slice-read-k c = search needs
+
+returns-2 : tie.Need-returns-2
+returns-2 c = read-unknown (c .before .before .before .before .args .s .now) (c .before .before .before .before .args .self .at) (omega arith) (c .if2 .taken)
+
+returns-3 : tie.Need-returns-3
+returns-3 c = read-high (c .before .before .before .before .before .args .s .now) (c .before .before .before .before .before .args .self .at) (omega arith) (c .if3 .taken)
+
+body-of-requires : tie.Need-body-of-requires
+body-of-requires c κs = search needs
+
+sub-if4 : tie.Need-sub-if4
+sub-if4 c = search needs
+
+returns-4 : tie.Need-returns-4
+returns-4 c = read-short (c .before .before .before .before .before .before .before .args .s .now) (c .before .before .before .before .before .before .before .args .self .at) (omega arith) (rw (c .before .body-of .ensures .0) at (c .if4 .taken))
+
+add-number-at : tie.Need-add-number-at
+add-number-at c = search needs
+
+number-at-requires : tie.Need-number-at-requires
+number-at-requires c κs = search needs
+
+make-requires : tie.Need-make-requires
+make-requires c κs = (omega arith, omega arith, rw (c .before .before .body-of .ensures .0) at (c .number-at .ensures .1))
+
+add-t10 : tie.Need-add-t10
+add-t10 c = search needs
+
+add-t13 : tie.Need-add-t13
+add-t13 c = search needs
+
+returns-5 : tie.Need-returns-5
+returns-5 c = read-got (c .before .before .before .before .before .before .before .before .before .args .s .now) (c .before .before .before .before .before .before .before .before .before .args .self .at) (omega arith) _ _ _ (c .before .before .before .body-of .ensures .0) (omega arith) (c .before .number-at .ensures .0) (c .before .number-at .ensures .1) (c .make .ensures .0) (c .make .ensures .1)
+
+pub read-spec : {M : Type 1} → statement M
+read-spec =
+    tie.close
+    (tie.spec
+    returns
+    shared-slice-read-k
+    returns-2
+    returns-3
+    body-of-requires
+    sub-if4
+    returns-4
+    add-number-at
+    number-at-requires
+    make-requires
+    add-t10
+    add-t13
+    returns-5)

@@ -1,0 +1,171 @@
+-- What stands at a place: one element, a symbol, a term; and what the code read there.
+use mathlib.Core.Path.{_≡_, refl, sym, _∙_, ap}
+use mathlib.Core.Bool.{true, false}
+use mathlib.Core.List.{List, [], _∷_, _++_, append-assoc}
+use Prim.Native.Nat.{ℕ, suc, _+_, _-_, _^_, _≤_, _<_}
+use native.Mathlib.Omega.{arith}
+use lib.ListN.{length, getD, take, drop, length-append, length-take, length-drop, drop-of-length-le}
+use lib.Dec.{T, leb}
+use borrow.Author.Tests.{leb-true}
+use Rattle.meaning.specs.Elements.{kind, body, cut, elements, join, isSymbol}
+use Rattle.meaning.specs.Goodness.{span}
+use Rattle.meaning.specs.Matching.{Terms, symbol, bracket}
+use Rattle.meaning.proofs.Truth.{never, and-left, and-right, T-true}
+use Rattle.meaning.proofs.Cutting.{cut-at, join-cut}
+use Rattle.meaning.proofs.Leading.{join-append}
+use Rattle.elements.specs.declared.Element.{Element}
+use Rattle.elements.specs.declared.Reading.the-variants.{Got, Bad}
+use Rattle.elements.specs.declared.Found.the-variants.{Nothing}
+use Rattle.elements.specs.Bytes.{kindOf, numberOf, digits, bytesOf}
+use Rattle.elements.specs.Reading.{Splits, ReadAt, bad, got, Balanced, symbols, opening, closing, SymbolEnd, no-symbol, TermEnd, no-term}
+
+-- an element without a body has the number 0
+pub no-number : (k j n : ℕ) → k ≡ j → body j ≡ 0 → n < 256 ^ body k → 0 ≡ n
+no-number k j n e z h = let q : body k ≡ 0 = rw e z in (let i : n < 256 ^ 0 = rw q at h in omega arith)
+
+-- nothing stands past the end
+pub none-left : (s : List ℕ) (at : ℕ) → length s ≤ at → elements (drop at s) ≡ []
+unfolding cut
+none-left s at h = rw (drop-of-length-le s h)
+
+module _ (s : List ℕ) (at : ℕ) (h : at < length s) where
+  -- the element there
+  unfoldable pub here : List ℕ
+  here = getD s at 0 ∷ take (body (getD s at 0)) (drop (at + 1) s)
+
+  pub kind-here : kind here ≡ getD s at 0
+  unfolding here
+  kind-here = refl
+
+  pub cut-here : elements (drop at s) ≡ here ∷ elements (drop (at + 1 + body (getD s at 0)) s)
+  unfolding here
+  cut-here = cut-at s at h
+
+  room : length here ≡ suc (body (getD s at 0)) → at + 1 + body (getD s at 0) ≤ length s
+  unfolding here
+  room e = omega (arith, simp (length-take, length-drop) at e)
+
+  pub splits-here : length here ≡ suc (body (getD s at 0)) → Splits s at (here ∷ []) (at + 1 + body (getD s at 0))
+  splits-here e = record { on = omega arith; fits = room e; front = cut-here }
+
+  -- an element without a body is whole
+  pub bare-whole : (b : ℕ) → here ≡ b ∷ [] → body b ≡ 0 → length here ≡ suc (body (getD s at 0))
+  bare-whole b q z = ap length q ∙ (let e : getD s at 0 ≡ b = sym kind-here ∙ ap kind q in rw (e, z))
+
+  short-here : length s - at ≤ body (getD s at 0) → length here ≡ suc (body (getD s at 0)) → ⊥
+  short-here l e = let r = room e in omega arith
+
+  -- what a cursor reads
+  pub read-unknown : (getD s at 0 ≡ 0) → ReadAt s at Bad
+  unfolding span
+  read-unknown z =
+      bad h (λ e es q w. never (let k : kind e ≡ 0 = (let i : here ≡ e = cc cut-here in sym (ap kind i) ∙ kind-here ∙ z) in let b : false ≡ true = rw k at (w .known) in cc))
+
+  pub read-high : 15 < getD s at 0 → ReadAt s at Bad
+  unfolding span
+  read-high z =
+      bad h (λ e es q w. never (let k : kind e ≡ getD s at 0 = (let i : here ≡ e = cc cut-here in sym (ap kind i) ∙ kind-here) in let b = leb-true (kind e) 15 (and-right (leb 1 (kind e)) _ (w .known)) in omega arith))
+
+  pub read-short : length s - at ≤ body (getD s at 0) → ReadAt s at Bad
+  read-short z =
+      bad h (λ e es q w. short-here z (let i : here ≡ e = cc cut-here in rw i (w .long ∙ ap (λ (x : List ℕ). suc (body (kind x))) (sym i) ∙ rw kind-here)))
+
+  pub read-got : (w n : ℕ) (x : Element) → w ≡ body (getD s at 0) → w < length s - at → digits w n ≡ take w (drop (at + 1) s) → n < 256 ^ w
+      → kindOf x ≡ getD s at 0 → numberOf x ≡ n → ReadAt s at (Got x (record { at = at + 1 + w }))
+  unfolding here
+  read-got w n x ew l d b ek en =
+      let e : bytesOf x ≡ here = rw (ek, en, ← ew, d) in
+      let r : length here ≡ suc (body (getD s at 0)) = simp (length-take, length-drop) (omega arith) in
+      got {x = x} {c = record { at = at + 1 + w }} (rw (ek, en, ← ew) b) (omega arith) (rw (e, ew) (splits-here r))
+
+-- SYMBOLS AND TERMS, where an argument is balanced
+
+pub data Head (d : ℕ) (e : List ℕ) (es : List (List ℕ)) : Type 0 where
+  head-symbol : T (isSymbol e) → length e ≡ suc (body (kind e)) → Balanced d es → Head d e es
+  head-open : e ≡ 4 ∷ [] → Balanced (suc d) es → Head d e es
+  head-close : {c : ℕ} → d ≡ suc c → e ≡ 5 ∷ [] → Balanced c es → Head d e es
+
+pub head : {d : ℕ} {e : List ℕ} {es : List (List ℕ)} → Balanced d (e ∷ es) → Head d e es
+head (symbols t l b) = head-symbol t l b
+head (opening b) = head-open refl b
+head (closing b) = head-close refl refl b
+
+pub symbol-kind : (e : List ℕ) → T (isSymbol e) → (1 ≤ kind e) × (kind e ≤ 3)
+unfolding isSymbol
+symbol-kind e t = (leb-true _ _ (and-left (leb 1 (kind e)) _ (T-true _ t)), leb-true _ _ (and-right (leb 1 (kind e)) _ (T-true _ t)))
+
+module _ (s : List ℕ) (at : ℕ) (h : at < length s) where
+  pub head-here : {d : ℕ} → Balanced d (elements (drop at s)) → Head d (here s at h) (elements (drop (at + 1 + body (getD s at 0)) s))
+  head-here b = head (rw (cut-here s at h) at b)
+
+  pub symbol-here : {d : ℕ} → Balanced d (elements (drop at s)) → (getD s at 0 ≡ 4 → ⊥) → (getD s at 0 ≡ 5 → ⊥)
+      → T (isSymbol (here s at h)) × Splits s at (here s at h ∷ []) (at + 1 + body (getD s at 0))
+  unfolding here
+  symbol-here b n4 n5 =
+      elim (head-here b) [
+        | head-symbol t l c ↦ (t, splits-here s at h l)
+        | head-open e c ↦ absurd (n4 (ap kind e))
+        | head-close q e c ↦ absurd (n5 (ap kind e))
+      ]
+
+  pub no-symbol-here : 3 < getD s at 0 → SymbolEnd s at Nothing
+  no-symbol-here l =
+      no-symbol (λ e es t q. never (let i : here s at h ≡ e = cc (cut-here s at h) in let w = symbol-kind e t in let z : kind e ≡ getD s at 0 = sym (ap kind i) ∙ kind-here s at h in omega arith))
+
+  pub open-here : {d : ℕ} → Balanced d (elements (drop at s)) → getD s at 0 ≡ 4 → Balanced (suc d) (elements (drop (at + 1) s))
+  unfolding here body
+  open-here b e =
+      elim (head-here b) [
+        | head-symbol t l c ↦ never (let w = symbol-kind _ t in omega arith)
+        | head-open q c ↦ (let z : at + 1 + body (getD s at 0) ≡ at + 1 = rw e (omega arith) in rw z at c)
+        | head-close q f c ↦ never (let w : getD s at 0 ≡ 5 = ap kind f in omega arith)
+      ]
+
+  pub open-splits : {d : ℕ} → Balanced d (elements (drop at s)) → getD s at 0 ≡ 4 → Splits s at ((4 ∷ []) ∷ []) (at + 1)
+  unfolding body
+  open-splits b e =
+      elim (head-here b) [
+        | head-symbol t l c ↦ never (let w = symbol-kind _ t in let z = kind-here s at h in omega arith)
+        | head-open q c ↦
+            let z : at + 1 + body (getD s at 0) ≡ at + 1 = rw e (omega arith) in
+            rw (z, q) at (splits-here s at h (bare-whole s at h 4 q refl))
+        | head-close q f c ↦ never (let w : getD s at 0 ≡ 5 = sym (kind-here s at h) ∙ ap kind f in omega arith)
+      ]
+
+  pub no-term-here : getD s at 0 ≡ 5 → TermEnd s at Nothing
+  no-term-here e = no-term (λ v es t q. starts v es t (sym (cut-here s at h) ∙ q))
+    where
+      starts : (v es : List (List ℕ)) → Terms 1 v → here s at h ∷ elements (drop (at + 1 + body (getD s at 0)) s) ≡ v ++ es → ⊥
+      starts v es (symbol {e = x} t r) q = never (let i : here s at h ≡ x = cc in let w = symbol-kind x t in let z : kind x ≡ getD s at 0 = sym (ap kind i) ∙ kind-here s at h in omega arith)
+      starts v es (bracket r r′ q′) q = never (let i : here s at h ≡ 4 ∷ [] = cc in let z : getD s at 0 ≡ 4 = sym (kind-here s at h) ∙ ap kind i in omega arith)
+
+pub no-symbol-end : (s : List ℕ) (at : ℕ) → length s ≤ at → SymbolEnd s at Nothing
+no-symbol-end s at h = no-symbol (λ e es t q. never (cc (none-left s at h)))
+
+pub no-term-end : (s : List ℕ) (at : ℕ) → length s ≤ at → TermEnd s at Nothing
+no-term-end s at h = no-term (λ v es t q. starts v es t (sym (none-left s at h) ∙ q))
+  where
+    starts : (v es : List (List ℕ)) → Terms 1 v → [] ≡ v ++ es → ⊥
+    starts v es (symbol t r) q = never (cc)
+    starts v es (bracket r r′ q′) q = never (cc)
+
+-- BYTES OF WHAT IS SPLIT
+
+pub split-bytes : {s : List ℕ} {at : ℕ} {v : List (List ℕ)} {next : ℕ} → Splits s at v next → drop at s ≡ join v ++ drop next s
+split-bytes {s} {at} {v} {next} p = sym (join-cut (drop at s)) ∙ ap join (p .front) ∙ join-append v (elements (drop next s)) ∙ rw (join-cut (drop next s))
+
+pub split-size : {s : List ℕ} {at : ℕ} {v : List (List ℕ)} {next : ℕ} → Splits s at v next → length (join v) ≡ next - at
+split-size {s} {at} {v} {next} p =
+    let l = p .on in let f = p .fits in
+    omega (arith, simp (length-append, length-drop) at (ap length (split-bytes p)))
+
+-- one run after the other
+pub split-join : {s : List ℕ} {at : ℕ} {v : List (List ℕ)} {next : ℕ} {w : List (List ℕ)} {end : ℕ} → Splits s at v next → Splits s next w end → Splits s at (v ++ w) end
+split-join {v = v} {w = w} p q = record {
+  on = omega (arith, p .on, q .on);
+  fits = q .fits;
+  front = p .front ∙ rw (q .front) (sym (append-assoc v w _));
+}
+
+pub split-nothing : (s : List ℕ) (at : ℕ) → at ≤ length s → Splits s at [] at
+split-nothing s at h = record { on = omega arith; fits = h; front = refl }

@@ -1,0 +1,56 @@
+use borrow.Author.Needs.{needs}
+use Rattle.elements.proofs.Values.{Comparing, compare-start, compare-proper, compare-on, shared-less, compare-lost, compare-won, lengths-differ}
+use lib.ListN.{length}
+use Prim.Native.Nat.{_-_}
+use native.Mathlib.Omega.{arith}
+use Rattle.elements.proofs.equal_values.Statement.{statement}
+use Rattle.elements.proofs.equal_values.Tie as tie
+
+abbrev Inv-loop : tie.InvT-loop
+Inv-loop a b at₀ at = Comparing a b at
+
+abbrev μ-loop : tie.MeasureT-loop
+μ-loop a b at₀ at = length a - at
+
+returns : tie.Need-returns Inv-loop μ-loop
+returns c = lengths-differ _ _ (c .if1 .taken)
+
+loop-holds : tie.Need-loop-holds Inv-loop μ-loop
+loop-holds c = compare-start (c .before .before .before .args .a .now) (c .before .before .before .args .b .now) (c .if1 .left) (c .before .before .before .pre)
+
+shared-end-requires : tie.Need-shared-end-requires Inv-loop μ-loop
+shared-end-requires c κs = compare-proper _ _ _ (c .before .loop .inv) (c .loop-test .taken)
+
+enum-known-next : tie.Need-enum-known-next Inv-loop μ-loop
+enum-known-next c = search needs
+
+loop-less : tie.Need-loop-less Inv-loop μ-loop
+loop-less c = omega (arith, shared-less _ _ _ _ (rw (c .before .next .given .1) at (c .before .before .before .shared-end .ensures)))
+
+loop-again : tie.Need-loop-again Inv-loop μ-loop
+loop-again c = compare-on _ _ _ _ (c .before .before .before .before .before .loop .inv) (rw (c .before .next .given .1) at (c .before .before .before .shared-end .ensures))
+
+enum-told : tie.Need-enum-told Inv-loop μ-loop
+enum-told c = search needs
+
+returns-2 : tie.Need-returns-2 Inv-loop μ-loop
+returns-2 c = compare-lost _ _ _ (rw (c .enum-told .given .1) at (c .before .before .shared-end .ensures))
+
+returns-3 : tie.Need-returns-3 Inv-loop μ-loop
+returns-3 c = compare-won _ _ _ (c .before .loop .inv) (omega arith)
+
+pub equal-values-spec : {M : Type 1} → statement M
+equal-values-spec =
+    tie.close
+    (tie.spec
+    Inv-loop
+    μ-loop
+    returns
+    loop-holds
+    shared-end-requires
+    enum-known-next
+    loop-less
+    loop-again
+    enum-told
+    returns-2
+    returns-3)

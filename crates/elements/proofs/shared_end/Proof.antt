@@ -1,0 +1,69 @@
+use Rattle.elements.proofs.Values.{a-not-bad, a-not-over, b-bad, b-over, shared, different, got-number}
+use borrow.Author.Needs.{needs}
+use Rattle.elements.proofs.shared_end.Statement.{statement}
+use Rattle.elements.proofs.shared_end.Tie as tie
+
+read-requires : tie.Need-read-requires
+read-requires c κs = search needs
+
+enum-known-x : tie.Need-enum-known-x
+enum-known-x c = search needs
+
+read-requires-2 : tie.Need-read-requires-2
+read-requires-2 c κs = search needs
+
+enum-known-y : tie.Need-enum-known-y
+enum-known-y c = search needs
+
+same-requires : tie.Need-same-requires
+same-requires c κs = (got-number (rw (c .before .before .before .before .before .x .given .1) at (c .before .before .before .before .before .before .before .read .ensures)), got-number (rw (c .before .y .given .1) at (c .before .before .before .read2 .ensures)))
+
+enum-told : tie.Need-enum-told
+enum-told c = search needs
+
+enum-told-2 : tie.Need-enum-told-2
+enum-told-2 c = search needs
+
+enum-told-3 : tie.Need-enum-told-3
+enum-told-3 c = search needs
+
+enum-told-4 : tie.Need-enum-told-4
+enum-told-4 c = search needs
+
+returns : tie.Need-returns
+returns c = shared (c .before .before .before .before .before .before .before .before .before .before .before .before .args .a .now) (c .before .before .before .before .before .before .before .before .before .before .before .before .args .b .now) (c .before .before .before .before .before .before .before .before .before .before .before .before .args .at) (c .before .before .before .before .before .before .before .before .before .before .before .before .pre) (rw (c .before .before .before .before .before .before .before .x .given .1) at (c .before .before .before .before .before .before .before .before .before .read .ensures)) (rw (c .before .before .before .y .given .1) at (c .before .before .before .before .before .read2 .ensures)) (rw (c .if1 .taken) at (c .before .same .ensures))
+
+returns-2 : tie.Need-returns-2
+returns-2 c = different (c .before .before .before .before .before .before .before .before .before .before .before .before .args .a .now) (c .before .before .before .before .before .before .before .before .before .before .before .before .args .b .now) (c .before .before .before .before .before .before .before .before .before .before .before .before .args .at) (c .before .before .before .before .before .before .before .before .before .before .before .before .pre) (rw (c .before .before .before .before .before .before .before .x .given .1) at (c .before .before .before .before .before .before .before .before .before .read .ensures)) (rw (c .before .before .before .y .given .1) at (c .before .before .before .before .before .read2 .ensures)) (rw (c .if1 .left) at (c .before .same .ensures))
+
+returns-3 : tie.Need-returns-3
+returns-3 c = b-bad (c .before .before .before .before .before .before .before .before .before .args .a .now) (c .before .before .before .before .before .before .before .before .before .args .b .now) (c .before .before .before .before .before .before .before .before .before .args .at) (c .before .before .before .before .before .before .before .before .before .pre) (rw (c .enum-told .given .1) at (c .before .before .read2 .ensures))
+
+returns-4 : tie.Need-returns-4
+returns-4 c = b-over (c .before .before .before .before .before .before .before .before .before .args .a .now) (c .before .before .before .before .before .before .before .before .before .args .b .now) (c .before .before .before .before .before .before .before .before .before .args .at) (c .before .before .before .before .before .before .before .before .before .pre) (rw (c .enum-told2 .given .1) at (c .before .before .read2 .ensures))
+
+returns-5 : tie.Need-returns-5
+returns-5 c = absurd (a-not-bad (c .before .before .before .before .before .args .a .now) (c .before .before .before .before .before .args .b .now) (c .before .before .before .before .before .args .at) (c .before .before .before .before .before .pre) (rw (c .enum-told3 .given .1) at (c .before .before .read .ensures)))
+
+returns-6 : tie.Need-returns-6
+returns-6 c = absurd (a-not-over (c .before .before .before .before .before .args .a .now) (c .before .before .before .before .before .args .b .now) (c .before .before .before .before .before .args .at) (c .before .before .before .before .before .pre) (rw (c .enum-told4 .given .1) at (c .before .before .read .ensures)))
+
+pub shared-end-spec : {M : Type 1} → statement M
+shared-end-spec =
+    tie.close
+    (tie.spec
+    read-requires
+    enum-known-x
+    read-requires-2
+    enum-known-y
+    same-requires
+    enum-told
+    enum-told-2
+    enum-told-3
+    enum-told-4
+    returns
+    returns-2
+    returns-3
+    returns-4
+    returns-5
+    returns-6)

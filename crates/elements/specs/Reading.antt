@@ -1,0 +1,89 @@
+-- What stands at a place of some bytes.
+use mathlib.Core.Path.{_≡_}
+use mathlib.Core.Bool.{true, cond}
+use mathlib.Core.List.{List, [], _∷_, _++_}
+use Prim.Native.Nat.{ℕ, suc, _+_, _-_, _^_, _≤_, _<_}
+use lib.ListN.{length, drop}
+use lib.Dec.{T, eqb}
+use Rattle.meaning.specs.Elements.{kind, body, elements, isSymbol}
+use Rattle.meaning.specs.Goodness.{span}
+use Rattle.meaning.specs.Matching.{Terms}
+use Rattle.elements.specs.declared.Element.{Element}
+use Rattle.elements.specs.declared.Cursor.{Cursor}
+use Rattle.elements.specs.declared.Reading.{Reading}
+use Rattle.elements.specs.declared.Reading.the-variants.{Got, Bad, End}
+use Rattle.elements.specs.declared.Found.{Found}
+use Rattle.elements.specs.declared.Found.the-variants.{At, Nothing}
+use Rattle.elements.specs.Bytes.{kindOf, numberOf, bytesOf}
+
+-- from `at` to `next` stand the elements v
+pub record Splits (s : List ℕ) (at : ℕ) (v : List (List ℕ)) (next : ℕ) : Type 0 where
+  pub on : at ≤ next
+  pub fits : next ≤ length s
+  pub front : elements (drop at s) ≡ v ++ elements (drop next s)
+
+-- an element of a known kind with its whole body
+pub record Whole1 (e : List ℕ) : Type 0 where
+  pub known : span 1 15 (kind e) ≡ true
+  pub long : length e ≡ suc (body (kind e))
+
+-- what a cursor at a place reads
+pub data ReadAt (s : List ℕ) (at : ℕ) : Reading → Type 0 where
+  over : length s ≤ at → ReadAt s at End
+  bad : at < length s → ((e : List ℕ) (es : List (List ℕ)) → elements (drop at s) ≡ e ∷ es → Whole1 e → ⊥) → ReadAt s at Bad
+  got : {x : Element} {c : Cursor} → numberOf x < 256 ^ body (kindOf x) → at < c .at → Splits s at (bytesOf x ∷ []) (c .at) → ReadAt s at (Got x c)
+
+-- elements of known kinds with their whole bodies
+pub data Proper : List (List ℕ) → Type 0 where
+  none : Proper []
+  more : {e : List ℕ} {es : List (List ℕ)} → Whole1 e → Proper es → Proper (e ∷ es)
+
+-- what closes d open brackets and is otherwise a run of terms
+pub data Balanced : ℕ → List (List ℕ) → Type 0 where
+  ended : Balanced 0 []
+  symbols : {d : ℕ} {e : List ℕ} {es : List (List ℕ)} → T (isSymbol e) → length e ≡ suc (body (kind e)) → Balanced d es → Balanced d (e ∷ es)
+  opening : {d : ℕ} {es : List (List ℕ)} → Balanced (suc d) es → Balanced d ((4 ∷ []) ∷ es)
+  closing : {d : ℕ} {es : List (List ℕ)} → Balanced d es → Balanced (suc d) ((5 ∷ []) ∷ es)
+
+-- an argument from a place on, at which d brackets are open
+pub record Level (s : List ℕ) (at : ℕ) : Type 0 where
+  pub depth : ℕ
+  pub fits : at ≤ length s
+  pub balanced : Balanced depth (elements (drop at s))
+
+pub data SymbolEnd (s : List ℕ) (at : ℕ) : Found → Type 0 where
+  symbol-at : {e : List ℕ} {t : ℕ} → T (isSymbol e) → Splits s at (e ∷ []) t → SymbolEnd s at (At t)
+  no-symbol : ((e : List ℕ) (es : List (List ℕ)) → T (isSymbol e) → elements (drop at s) ≡ e ∷ es → ⊥) → SymbolEnd s at Nothing
+
+pub data TermEnd (s : List ℕ) (at : ℕ) : Found → Type 0 where
+  term-at : {v : List (List ℕ)} {t : ℕ} → Terms 1 v → Splits s at v t → TermEnd s at (At t)
+  no-term : ((v es : List (List ℕ)) → Terms 1 v → elements (drop at s) ≡ v ++ es → ⊥) → TermEnd s at Nothing
+
+-- j brackets are open, then an element of kind k comes
+unfoldable pub depthAfter : ℕ → ℕ → ℕ
+depthAfter k j = cond (eqb k 4) (j + 1) (cond (eqb k 5) (j - 1) j)
+
+-- a place behind an opening bracket, and the one behind its closing bracket
+pub record Shutting (s : List ℕ) (at : ℕ) : Type 0 where
+  pub depth : ℕ
+  pub behind : 1 ≤ at
+  pub fits : at ≤ length s
+  pub balanced : Balanced (suc depth) (elements (drop at s))
+
+pub record Shut (s : List ℕ) (at t : ℕ) : Type 0 where
+  pub m : ℕ
+  pub xs : List (List ℕ)
+  pub inside : Terms m xs
+  pub split : Splits s at (xs ++ ((5 ∷ []) ∷ [])) t
+
+-- an element of a known kind stands there, whole
+pub record ProperAt (s : List ℕ) (at : ℕ) : Type 0 where
+  pub e : List ℕ
+  pub es : List (List ℕ)
+  pub is : elements (drop at s) ≡ e ∷ es
+  pub whole : Whole1 e
+
+-- the element at a place, if both have it there
+pub data Shared (a b : List ℕ) (at : ℕ) : Found → Type 0 where
+  both : {e : List ℕ} {t : ℕ} → at < t → Splits a at (e ∷ []) t → Splits b at (e ∷ []) t → Shared a b at (At t)
+  differ : (elements (drop at a) ≡ elements (drop at b) → ⊥) → Shared a b at Nothing

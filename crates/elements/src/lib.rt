@@ -1,0 +1,331 @@
+// Elements read off bytes, terms passed over, values compared.
+ghost use mathlib.Core.Path.{_≡_};
+ghost use Prim.Native.Nat.{_+_, _^_, _<_, _≤_};
+ghost use lib.ListN.{length, getD, take, drop};
+ghost use Rattle.meaning.specs.Elements.{body, elements};
+ghost use Rattle.elements.specs.Bytes.{kindOf, numberOf, digits, bytesOf, Told};
+ghost use Rattle.elements.specs.Reading.{ReadAt, Proper, Level, depthAfter, Shutting, Shut, SymbolEnd, TermEnd, ProperAt, Shared};
+
+// An element: fifteen kinds, with the number in the body where there is one.
+pub enum Element {
+    Character(u32),
+    Name(u32),
+    Macrodigit(u32),
+    Open,
+    Close,
+    Call(u32),
+    Return,
+    SVariable(u32),
+    TVariable(u32),
+    EVariable(u32),
+    Equals,
+    SentenceEnd,
+    Header(u32),
+    FunctionEnd,
+    ProgramEnd,
+}
+
+// A place between elements.
+pub struct Cursor {
+    pub at: usize,
+}
+
+pub enum Reading {
+    Got(Element, Cursor),
+    Bad,
+    End,
+}
+
+pub enum Found {
+    At(usize),
+    Nothing,
+}
+
+fn kind_of(x: Element) -> u8
+    ensures { λ r. ⌜ r ≡ kindOf x ⌝ }
+{
+    match x {
+        Element::Character(_) => 1,
+        Element::Name(_) => 2,
+        Element::Macrodigit(_) => 3,
+        Element::Open => 4,
+        Element::Close => 5,
+        Element::Call(_) => 6,
+        Element::Return => 7,
+        Element::SVariable(_) => 8,
+        Element::TVariable(_) => 9,
+        Element::EVariable(_) => 10,
+        Element::Equals => 11,
+        Element::SentenceEnd => 12,
+        Element::Header(_) => 13,
+        Element::FunctionEnd => 14,
+        Element::ProgramEnd => 15,
+    }
+}
+
+fn number_of(x: Element) -> u32
+    ensures { λ r. ⌜ r ≡ numberOf x ⌝ }
+{
+    match x {
+        Element::Character(n) => n,
+        Element::Name(n) => n,
+        Element::Macrodigit(n) => n,
+        Element::Open => 0,
+        Element::Close => 0,
+        Element::Call(n) => n,
+        Element::Return => 0,
+        Element::SVariable(n) => n,
+        Element::TVariable(n) => n,
+        Element::EVariable(n) => n,
+        Element::Equals => 0,
+        Element::SentenceEnd => 0,
+        Element::Header(n) => n,
+        Element::FunctionEnd => 0,
+        Element::ProgramEnd => 0,
+    }
+}
+
+fn symbol(k: u8, n: u32) -> Element
+    requires { ⌜ (1 ≤ k) × (k ≤ 3) ⌝ }
+    ensures { λ r. ⌜ (kindOf r ≡ k) × (numberOf r ≡ n) ⌝ }
+{
+    match k {
+        1 => Element::Character(n),
+        2 => Element::Name(n),
+        _ => Element::Macrodigit(n),
+    }
+}
+
+fn bracket(k: u8, n: u32) -> Element
+    requires { ⌜ (4 ≤ k) × (k ≤ 7) × (n < 256 ^ body k) ⌝ }
+    ensures { λ r. ⌜ (kindOf r ≡ k) × (numberOf r ≡ n) ⌝ }
+{
+    match k {
+        4 => Element::Open,
+        5 => Element::Close,
+        6 => Element::Call(n),
+        _ => Element::Return,
+    }
+}
+
+fn variable(k: u8, n: u32) -> Element
+    requires { ⌜ (8 ≤ k) × (k ≤ 10) ⌝ }
+    ensures { λ r. ⌜ (kindOf r ≡ k) × (numberOf r ≡ n) ⌝ }
+{
+    match k {
+        8 => Element::SVariable(n),
+        9 => Element::TVariable(n),
+        _ => Element::EVariable(n),
+    }
+}
+
+fn mark(k: u8, n: u32) -> Element
+    requires { ⌜ (11 ≤ k) × (k ≤ 15) × (n < 256 ^ body k) ⌝ }
+    ensures { λ r. ⌜ (kindOf r ≡ k) × (numberOf r ≡ n) ⌝ }
+{
+    match k {
+        11 => Element::Equals,
+        12 => Element::SentenceEnd,
+        13 => Element::Header(n),
+        14 => Element::FunctionEnd,
+        _ => Element::ProgramEnd,
+    }
+}
+
+// The element of kind k with the number n, which is 0 where there is no body.
+fn make(k: u8, n: u32) -> Element
+    requires { ⌜ (1 ≤ k) × (k ≤ 15) × (n < 256 ^ body k) ⌝ }
+    ensures { λ r. ⌜ (kindOf r ≡ k) × (numberOf r ≡ n) ⌝ }
+{
+    if k <= 3 {
+        return symbol(k, n);
+    }
+    if k <= 7 {
+        return bracket(k, n);
+    }
+    if k <= 10 {
+        return variable(k, n);
+    }
+    mark(k, n)
+}
+
+fn byte(s: &[u8], at: usize) -> u32
+    requires { ⌜ at < length (now s) ⌝ }
+    ensures { λ r. ⌜ (r ≡ getD (now (s .entry)) at 0) × (r < 256) ⌝ }
+{
+    s[at] as u32
+}
+
+// The number in two bytes, the low one first.
+fn word(s: &[u8], at: usize) -> u32
+    requires { ⌜ at + 2 ≤ length (now s) ⌝ }
+    ensures { λ r. ⌜ (digits 2 r ≡ take 2 (drop at (now (s .entry)))) × (r < 65536) ⌝ }
+{
+    byte(s, at) + byte(s, at + 1) * 256
+}
+
+// The number in a body of at most four bytes.
+fn number_at(s: &[u8], at: usize, width: usize) -> u32
+    requires { ⌜ (at + width ≤ length (now s)) × (width ≤ 4) ⌝ }
+    ensures { λ r. ⌜ (digits width r ≡ take width (drop at (now (s .entry)))) × (r < 256 ^ width) ⌝ }
+{
+    if width == 0 {
+        return 0;
+    }
+    if width == 1 {
+        return byte(s, at);
+    }
+    let low = word(s, at);
+    if width == 2 {
+        return low;
+    }
+    if width == 3 {
+        return low + byte(s, at + 2) * 65536;
+    }
+    low + word(s, at + 2) * 65536
+}
+
+impl Cursor {
+    // Reads one element, and hands the moved cursor back.
+    pub fn read(self, s: &[u8]) -> Reading
+        ensures { λ r. ⌜ ReadAt (now (s .entry)) (self .at) r ⌝ }
+    {
+        let at = self.at;
+        if s.len() <= at {
+            return Reading::End;
+        }
+        let k = s[at];
+        if k == 0 {
+            return Reading::Bad;
+        }
+        if 15 < k {
+            return Reading::Bad;
+        }
+        let width = kinds::body_of(k);
+        if s.len() - at <= width {
+            return Reading::Bad;
+        }
+        Reading::Got(
+            make(k, number_at(s, at + 1, width)),
+            Cursor { at: at + 1 + width },
+        )
+    }
+}
+
+// Past the symbol at a place.
+pub fn symbol_end(s: &[u8], at: usize) -> Found
+    requires { ⌜ Level (now s) at ⌝ }
+    ensures { λ r. ⌜ SymbolEnd (now (s .entry)) at r ⌝ }
+{
+    if s.len() <= at {
+        return Found::Nothing;
+    }
+    let k = s[at];
+    if 3 < k {
+        return Found::Nothing;
+    }
+    Found::At(at + 1 + kinds::body_of(k))
+}
+
+// The open brackets after an element of kind k.
+fn depth_after(k: u8, depth: usize) -> usize
+    requires { ⌜ (1 ≤ depth) × (depth < 18446744073709551615) ⌝ }
+    ensures { λ r. ⌜ r ≡ depthAfter k depth ⌝ }
+{
+    if k == 4 {
+        return depth + 1;
+    }
+    if k == 5 {
+        return depth - 1;
+    }
+    depth
+}
+
+// Past the bracket that closes the one that was opened just before a place.
+fn shut_end(s: &[u8], at: usize) -> usize
+    requires { ⌜ Shutting (now s) at ⌝ }
+    ensures { λ r. ⌜ Shut (now (s .entry)) at r ⌝ }
+{
+    let mut i = at;
+    let mut depth: usize = 1;
+    while 0 < depth {
+        let k = s[i];
+        depth = depth_after(k, depth);
+        i = i + 1 + kinds::body_of(k);
+    }
+    i
+}
+
+// Past the term at a place.
+pub fn term_end(s: &[u8], at: usize) -> Found
+    requires { ⌜ Level (now s) at ⌝ }
+    ensures { λ r. ⌜ TermEnd (now (s .entry)) at r ⌝ }
+{
+    if s.len() <= at {
+        return Found::Nothing;
+    }
+    let k = s[at];
+    if k == 5 {
+        return Found::Nothing;
+    }
+    if k == 4 {
+        return Found::At(shut_end(s, at + 1));
+    }
+    Found::At(at + 1 + kinds::body_of(k))
+}
+
+fn same(x: Element, y: Element) -> bool
+    requires { ⌜ (numberOf x < 256 ^ body (kindOf x)) × (numberOf y < 256 ^ body (kindOf y)) ⌝ }
+    ensures { λ r. ⌜ Told r (bytesOf x ≡ bytesOf y) ⌝ }
+{
+    if kind_of(x) == kind_of(y) {
+        number_of(x) == number_of(y)
+    } else {
+        false
+    }
+}
+
+// Past the element at a place, if it stands in both there.
+fn shared_end(a: &[u8], b: &[u8], at: usize) -> Found
+    requires { ⌜ ProperAt (now a) at ⌝ }
+    ensures { λ r. ⌜ Shared (now (a .entry)) (now (b .entry)) at r ⌝ }
+{
+    let c = Cursor { at };
+    match c.read(a) {
+        Reading::Got(x, next) => match c.read(b) {
+            Reading::Got(y, _) => {
+                if same(x, y) {
+                    Found::At(next.at)
+                } else {
+                    Found::Nothing
+                }
+            }
+            Reading::Bad => Found::Nothing,
+            Reading::End => Found::Nothing,
+        },
+        Reading::Bad => Found::Nothing,
+        Reading::End => Found::Nothing,
+    }
+}
+
+// Whether two values are equal: element by element.
+pub fn equal_values(a: &[u8], b: &[u8]) -> bool
+    requires { ⌜ Proper (elements (now a)) ⌝ }
+    ensures { λ r. ⌜ Told r (elements (now (a .entry)) ≡ elements (now (b .entry))) ⌝ }
+{
+    if a.len() != b.len() {
+        return false;
+    }
+    let mut at = 0;
+    while at < a.len() {
+        match shared_end(a, b, at) {
+            Found::At(next) => {
+                at = next;
+            }
+            Found::Nothing => {
+                return false;
+            }
+        }
+    }
+    true
+}

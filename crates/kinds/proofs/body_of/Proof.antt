@@ -1,0 +1,25 @@
+use mathlib.Core.Path.{sym}
+use native.Mathlib.Omega.{arith}
+use borrow.Author.Needs.{needs}
+use Rattle.meaning.proofs.Cutting.{body-le}
+use Rattle.kinds.proofs.Bodies.{body-known, body-unknown}
+use Rattle.kinds.proofs.body_of.Statement.{statement}
+use Rattle.kinds.proofs.body_of.Tie as tie
+
+mul-result : tie.Need-mul-result
+mul-result c = search needs
+
+cast-result : tie.Need-cast-result
+cast-result c = search needs
+
+shr-result : tie.Need-shr-result
+shr-result c = search needs
+
+returns : tie.Need-returns
+returns c = let e = body-known (c .before .args .k) (c .if1 .taken) in (e, rw e (body-le (c .before .args .k)))
+
+returns-2 : tie.Need-returns-2
+returns-2 c = (sym (body-unknown (c .before .args .k) (omega arith)), omega arith)
+
+pub body-of-spec : {M : Type 1} → statement M
+body-of-spec = tie.close (tie.spec mul-result cast-result shr-result returns returns-2)
