@@ -28,6 +28,13 @@ pub none-left : (s : List ℕ) (at : ℕ) → length s ≤ at → elements (drop
 unfolding cut
 none-left s at h = rw (drop-of-length-le s h)
 
+-- where nothing stands is the end
+pub ends-here : (s : List ℕ) (at : ℕ) → elements (drop at s) ≡ [] → length s ≤ at
+unfolding join
+ends-here s at q =
+    let e : drop at s ≡ [] = (sym (join-cut (drop at s)) ∙ ap join q) in
+    omega (arith, simp length-drop at (ap length e))
+
 module _ (s : List ℕ) (at : ℕ) (h : at < length s) where
   -- the element there
   unfoldable pub here : List ℕ

@@ -2,6 +2,7 @@ pub mod Words
 pub mod Truth
 pub mod Cutting
 pub mod Searching
+pub mod Trying
 pub mod Leading
 pub mod Balance
 pub mod Programs

@@ -2,7 +2,7 @@
 use mathlib.Core.Path.{_≡_, refl, sym, _∙_, ap, ap₂, subst}
 use mathlib.Core.Bool.{true, false}
 use mathlib.Core.Option.{Option, none, some}
-use mathlib.Core.List.{List, [], _∷_, _++_, append-assoc, List·Memᴰ, List·Memᴰ·head, List·Memᴰ·tail, List·Memᴰ·cases-cons}
+use mathlib.Core.List.{List, [], _∷_, _++_, append-assoc, List·Memᴰ, List·Memᴰ·head, List·Memᴰ·tail, List·Memᴰ·not-nil, List·Memᴰ·cases-cons}
 use mathlib.Core.Logic.{inl, inr}
 use Prim.Native.Nat.{ℕ, zero, suc, _+_, _≤_, _<_}
 use native.Mathlib.Omega.{arith}
@@ -119,7 +119,7 @@ Closing zero n v = Terms n v
 Closing (suc d) n v = (m : ℕ) × (xs : List Element) × (es : List Element) × Terms m xs × Closing d n es × (v ≡ xs ++ ((5 ∷ []) ∷ es))
 
 -- each way, the first of which has j terms at the end
-data Sound (ys : List Element) (d : ℕ) : ℕ → List Way → Type 0 where
+pub data Sound (ys : List Element) (d : ℕ) : ℕ → List Way → Type 0 where
   done : {j : ℕ} → Sound ys d j []
   each : {j : ℕ} {v r : List Element} {ws : List Way} → Closing d j v → ys ≡ v ++ r → Sound ys d (suc j) ws → Sound ys d j (way v r ∷ ws)
 
@@ -183,7 +183,7 @@ module _ (e : Element) (es : List Element) (rest : ℕ → List Way) (ih : (d : 
   past-sound d closes (k-close q) = sound-push e es d (suc d) (λ n. n) (λ n. refl) (rw q (closing-close d)) (ih d)
   past-sound d other k-other = done
 
-fronts-sound : (ys : List Element) (d : ℕ) → Sound ys d 0 (fronts ys d)
+pub fronts-sound : (ys : List Element) (d : ℕ) → Sound ys d 0 (fronts ys d)
 unfolding fronts Closing
 fronts-sound [] zero = each stop refl done
 fronts-sound [] (suc d) = done
@@ -193,15 +193,15 @@ fronts-sound (e ∷ es) (suc d) = past-sound e es (fronts es) (λ d′. fronts-s
 -- THE WAYS OF ONE ELEMENT ---------------------------------------------------
 
 -- each way has the property
-data Each (P : List Element → List Element → Type 0) : List Way → Type 0 where
+pub data Each (P : List Element → List Element → Type 0) : List Way → Type 0 where
   none-left : Each P []
   one-more : {v r : List Element} {ws : List Way} → P v r → Each P ws → Each P (way v r ∷ ws)
 
 -- a way of p at the front of xs, given what p stands for already
-record Good (env : Env) (p : Element) (xs v r : List Element) : Type 0 where
-  stands : Stands (role p) p v
-  front : xs ≡ v ++ r
-  agrees : (u : List Element) → env p ≡ some u → v ≡ u
+pub record Good (env : Env) (p : Element) (xs v r : List Element) : Type 0 where
+  pub stands : Stands (role p) p v
+  pub front : xs ≡ v ++ r
+  pub agrees : (u : List Element) → env p ≡ some u → v ≡ u
 
 -- the way v r, all before it having fewer terms
 data Pos (p : Element) (v r : List Element) : List Way → Type 0 where
@@ -213,7 +213,7 @@ unfolding pushAll push
 push-each P Q e f none-left = none-left
 push-each P Q e f (one-more h t) = one-more (f _ _ h) (push-each P Q e f t)
 
-exact-each : (v xs : List Element) → Each (λ u r. (u ≡ v) × (xs ≡ v ++ r)) (exact v xs)
+pub exact-each : (v xs : List Element) → Each (λ u r. (u ≡ v) × (xs ≡ v ++ r)) (exact v xs)
 unfolding exact
 exact-each [] ys = one-more (refl, refl) none-left
 exact-each (x ∷ xs) [] = none-left
@@ -223,7 +223,7 @@ exact-each (x ∷ xs) (y ∷ ys) =
       | is-false h ↦ rw (h, exact) none-left
     ]
 
-exact-here : (v r : List Element) → exact v (v ++ r) ≡ way v r ∷ []
+pub exact-here : (v r : List Element) → exact v (v ++ r) ≡ way v r ∷ []
 unfolding exact pushAll push
 exact-here [] r = refl
 exact-here (x ∷ xs) r = rw (same-refl x, exact) (rw (exact-here xs r))
@@ -249,7 +249,7 @@ second-each done = none-left
 second-each (each c q done) = none-left
 second-each (each c q (each c′ q′ s)) = one-more (c′, q′) none-left
 
-fresh-each : (t : Role) (p : Element) (xs : List Element) → Each (λ v r. Stands t p v × (xs ≡ v ++ r)) (fresh t p xs)
+pub fresh-each : (t : Role) (p : Element) (xs : List Element) → Each (λ v r. Stands t p v × (xs ≡ v ++ r)) (fresh t p xs)
 unfolding fresh
 fresh-each sVar p xs = symbols-each xs
 fresh-each tVar p xs = second-each (fronts-sound xs 0)
@@ -260,7 +260,7 @@ fresh-each plain p xs = each-map _ _ (λ v r (h, q). (h, rw h q)) (exact-each (p
 unfoldable pub Sure : Env → Type 0
 Sure env = (w : Element) (u : List Element) → env w ≡ some u → Stands (role w) w u
 
-known-each : (env : Env) (p : Element) (xs : List Element) → Sure env → Each (Good env p xs) (known (env p) p xs)
+pub known-each : (env : Env) (p : Element) (xs : List Element) → Sure env → Each (Good env p xs) (known (env p) p xs)
 unfolding Sure known
 known-each env p xs sure = go (env p) refl
   where
@@ -278,16 +278,20 @@ reach-pos : (p : Element) → role p ≡ eVar → {v r : List Element} {n j : �
 reach-pos p e k (here q w) = here w
 reach-pos p e k (skip a b) = skip e a k (reach-le b) (reach-pos p e k b)
 
-reach-second : {v r : List Element} {ws : List Way} → Reach v r 1 0 ws → (us : List Way) × (second ws ≡ way v r ∷ us)
+reach-second : {v r : List Element} {ws : List Way} → Reach v r 1 0 ws → second ws ≡ way v r ∷ []
 unfolding second
 reach-second (here q w) = never q
-reach-second (skip a (here q w)) = ([], rw w)
+reach-second (skip a (here q w)) = rw w
 reach-second (skip a (skip b c)) = never (let h = reach-le c in omega arith)
+
+-- a term at the front is the only one
+pub second-term : {v : List Element} → Terms 1 v → (r : List Element) → second (fronts (v ++ r) 0) ≡ way v r ∷ []
+second-term t r = reach-second (fronts-reach t r)
 
 fresh-pos : (t : Role) (p : Element) (v r : List Element) → role p ≡ t → Stands t p v → Pos p v r (fresh t p (v ++ r))
 unfolding fresh symbols
 fresh-pos sVar p v r k (e, h, q) = rw (q, T-true (isSymbol e) h, symbols) (here refl)
-fresh-pos tVar p v r k h = rw (reach-second (fronts-reach h r) .1) (here refl)
+fresh-pos tVar p v r k h = rw (reach-second (fronts-reach h r)) (here refl)
 fresh-pos eVar p v r k (n, h) = reach-pos p k h (fronts-reach h r)
 fresh-pos plain p v r k h = rw (h, exact-here (p ∷ []) r) (here refl)
 
@@ -400,6 +404,27 @@ seek-sound (p ∷ ps) xs env env′ s h =
       fit = next {p = p} {xs = xs} {r = r} (rw e (g .stands)) (rw e (g .front)) (i .fit);
     }
 
+keep-self : (t : Role) (p : Element) (v : List Element) (env : Env) → (t ≡ plain → ⊥) → keep t p v env p ≡ some v
+unfolding keep
+keep-self sVar p v env h = bind-same p p v env (same-refl p)
+keep-self tVar p v env h = bind-same p p v env (same-refl p)
+keep-self eVar p v env h = bind-same p p v env (same-refl p)
+keep-self plain p v env h = absurd (h refl)
+
+-- it gives a value to every variable
+pub seek-binds : (ps xs : List Element) (env env′ : Env) → Sure env → seek ps xs env ≡ some env′ → (p : Element) → List·Memᴰ p ps → (role p ≡ plain → ⊥)
+    → (u : List Element) × (env′ p ≡ some u)
+unfolding seek Extends Sure
+seek-binds [] xs env env′ s h p m n = absurd (List·Memᴰ·not-nil m)
+seek-binds (p₀ ∷ ps) xs env env′ s h p m n =
+    let (v, r, g, q) = firstOf-sound _ (seek ps) p₀ env env′ (known-each env p₀ xs s) h in
+    let s′ = keep-all (role p₀) (λ w u. Stands (role w) w u) p₀ v env (g .stands) s in
+    let i = seek-sound ps r (keep (role p₀) p₀ v env) env′ s′ q in
+    elim (List·Memᴰ·cases-cons m) [
+      | inl e ↦ (v, rw e (i .extends p₀ v (keep-self (role p₀) p₀ v env (rw e at n))))
+      | inr m′ ↦ seek-binds ps r (keep (role p₀) p₀ v env) env′ s′ q p m′ n
+    ]
+
 -- THE SEARCH FINDS, AND FINDS THE FIRST ---------------------------------------
 
 module _ (a : Assignment) (ps : List Element) (p : Element) (env : Env) (sure : Sure env) (r : List Element) (xs : List Element)
@@ -454,7 +479,7 @@ unfolding put
 fits-fit a [] h = end
 fits-fit a (p ∷ ps) h = next (h p (List·Memᴰ·head refl)) refl (fits-fit a ps (λ q m. h q (List·Memᴰ·tail m)))
 
-sure-free : Sure free
+pub sure-free : Sure free
 unfolding Sure free
 sure-free w u h = never (cc)
 

@@ -1,4 +1,7 @@
 //! The reference of Odolzagi: written from the papers alone, it makes the case files and what they are to give.
+//!
+//! `reference checks|matching|machine|desk DIR` writes DIR/stdin and DIR/stdout, the same at every run;
+//! `reference check-brute` compares the two matchers. Build with CARGO_TARGET_DIR outside the repository.
 
 mod check;
 mod element;

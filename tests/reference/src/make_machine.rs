@@ -120,16 +120,12 @@ fn invented(dice: &Dice) -> (Vec<u8>, Vec<u8>) {
 fn longest_field(program: &[u8], field: &[u8], room: usize, budget: u32) -> usize {
     let mut buffer = field.to_vec();
     buffer.resize(room, 0);
-    let (mut used, mut longest, mut scratch) = (field.len(), field.len(), vec![0; room]);
+    let (mut record, mut longest, mut scratch) = (Record::fresh(field.len()), 0, vec![0; room]);
     for _ in 0..budget {
-        let answer = run(program, &mut buffer, used, &mut scratch, 1);
-        used = answer.used;
-        longest = longest.max(used);
-        if answer.code != PAUSED {
-            break;
-        }
+        longest = longest.max(record.used);
+        record.call(program, &mut buffer, &mut scratch);
     }
-    longest
+    longest.max(record.used)
 }
 
 /// One program and field with ample room, with just enough, one byte short, and with budgets about the turning point.

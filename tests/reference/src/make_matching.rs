@@ -3,7 +3,7 @@
 use crate::element::*;
 use crate::invent::*;
 use crate::matching::*;
-use crate::notation::{bytes, hex};
+use crate::notation::{bytes, hex, macrodigit};
 use crate::worked;
 use std::collections::BTreeSet;
 
@@ -82,13 +82,7 @@ fn entangled(dice: &Dice) -> (Vec<u8>, Vec<u8>) {
     let pool = [dice.pick(&["e1", "s1", "t1"]), dice.pick(&["e2", "s1", "t2"]), "e3"];
     let (inner, outer) = (few(2 + dice.below(3), &pool[..2]), few(2 + dice.below(3), &pool[dice.below(2)..]));
     let left = [vec![OPEN], inner, vec![CLOSE], outer].concat();
-    let value = |kind| match kind {
-        E => few(dice.below(3), &[]),
-        T if dice.once_in(2) => [vec![OPEN], few(dice.below(2), &[]), vec![CLOSE]].concat(),
-        _ => few(1, &[]),
-    };
-    let values = variables(&left).into_iter().map(|v| (v, value(v.0))).collect();
-    let argument = put_in(&left, &values);
+    let argument = argument_for(dice, &left, &|size| few(size, &[]));
     let changed = changed(dice, &argument);
     (left, if dice.once_in(3) { changed } else { argument })
 }
@@ -97,8 +91,7 @@ fn entangled(dice: &Dice) -> (Vec<u8>, Vec<u8>) {
 fn invented(dice: &Dice) -> (Vec<u8>, Vec<u8>) {
     let pool = some_variables(dice, 1 + dice.below(4));
     let left = side(dice, 1 + dice.below(9), &[], &pool);
-    let values = variables(&left).into_iter().map(|v| (v, value(dice, v.0))).collect();
-    let argument = put_in(&left, &values);
+    let argument = argument_for(dice, &left, &|size| field(dice, size, &[]));
     match dice.below(8) {
         0 => (left, field(dice, dice.below(8), &[])),
         1 | 2 => (left, argument),
@@ -106,24 +99,28 @@ fn invented(dice: &Dice) -> (Vec<u8>, Vec<u8>) {
     }
 }
 
-fn value(dice: &Dice, kind: u8) -> Vec<u8> {
-    match kind {
-        E => field(dice, dice.below(4), &[]),
-        T if dice.once_in(2) => [vec![OPEN], field(dice, dice.below(3), &[]), vec![CLOSE]].concat(),
-        _ => symbol(dice),
-    }
+/// An argument that the left side fits, its values made of runs; a run of one element is a symbol.
+fn argument_for(dice: &Dice, left: &[u8], run: &dyn Fn(usize) -> Vec<u8>) -> Vec<u8> {
+    let value = |kind| match kind {
+        E => run(dice.below(4)),
+        T if dice.once_in(2) => [vec![OPEN], run(dice.below(3)), vec![CLOSE]].concat(),
+        _ => run(1),
+    };
+    put_in(left, &variables(left).into_iter().map(|v| (v, value(v.0))).collect())
 }
 
-/// One symbol replaced, dropped, doubled or added, the last one as often as any other: so that many fail late.
+/// One symbol changed in one of six ways, the last one as often as any other: so that many fail late.
 fn changed(dice: &Dice, argument: &[u8]) -> Vec<u8> {
     let symbols: Vec<_> = elements(argument).into_iter().filter(|(_, element)| is_symbol(element[0])).collect();
     let Some(last) = symbols.last() else { return symbol(dice) };
     let (start, old) = if dice.once_in(2) { *last } else { dice.pick(&symbols) };
     let (before, after) = (&argument[..start], &argument[start + old.len()..]);
-    match dice.below(4) {
+    match dice.below(6) {
         0 => [before, &symbol(dice), after].concat(),
         1 => [before, after].concat(),
         2 => [before, old, old, after].concat(),
+        3 => [before, &[OPEN], old, &[CLOSE], after].concat(),
+        4 => [before, &macrodigit(u32::from(old[1])), after].concat(),
         _ => [before, old, &symbol(dice), after].concat(),
     }
 }

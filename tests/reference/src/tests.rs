@@ -1,7 +1,6 @@
 //! The reference held against the document and against itself.
 
 use crate::machine::*;
-use crate::matching::{brute, plain};
 use crate::{make_machine, make_matching, worked};
 
 #[test]
@@ -11,9 +10,7 @@ fn worked_cases_are_as_printed() {
 
 #[test]
 fn both_matchers_agree() {
-    for case in make_matching::cases() {
-        assert_eq!(plain(&case.left, &case.argument), brute(&case.left, &case.argument));
-    }
+    crate::check_brute();
 }
 
 #[test]

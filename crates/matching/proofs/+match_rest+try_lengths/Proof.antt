@@ -1,0 +1,232 @@
+use Rattle.matching.proofs.Lengths.{Trying, trying-start, takes-all, trying-long, trying-level, trying-ready, trying-found, trying-on, trying-over, term-less}
+use Rattle.matching.proofs.Going.{Going, going-start, going-lost, going-ends, going-over, read-on, read-not-bad, read-not-over, slot-high, single-here, fresh-ready, fresh-seek, going-stuck, going-on}
+use Rattle.matching.proofs.Slots.{kept-self}
+use borrow.Author.Needs.{needs}
+use Rattle.matching.proofs.Lengths.{Trying, trying-start, takes-all, trying-level, trying-ready, trying-found, trying-on, trying-over, term-less}
+use Rattle.matching.proofs.Going.{Going, going-start, going-lost, going-ends, going-over, read-on, slot-high, single-here, fresh-ready, fresh-seek, going-stuck, going-on}
+use lib.ListN.{length}
+use native.Mathlib.Omega.{arith}
+use Prim.Native.Nat.{_+_, _-_, _*_}
+use Prim.Native.Nat.{ℕ, _<_}
+use borrow.Fn.Kinds.{In}
+use borrow.Fn.PlainCycle.{Measures, is, falls, and}
+use Rattle.matching.proofs.match_rest.Reads as match-rest
+use Rattle.matching.proofs.match_rest.Kinds as match-rest-kinds
+use Rattle.matching.proofs.+match_rest+try_lengths.Lts-match_rest as match-rest-lts
+use Rattle.matching.proofs.try_lengths.Reads as try-lengths
+use Rattle.matching.proofs.try_lengths.Kinds as try-lengths-kinds
+use Rattle.matching.proofs.+match_rest+try_lengths.Lts-try_lengths as try-lengths-lts
+use Rattle.elements.proofs.Cursor.read.Reads as read-reads
+use Rattle.elements.proofs.term_end.Reads as term-end-reads
+use Rattle.matching.proofs.is_fresh_e.Reads as is-fresh-e-reads
+use Rattle.matching.proofs.only_end.Reads as only-end-reads
+use Rattle.matching.proofs.settle.Reads as settle-reads
+use Rattle.matching.proofs.slot_of.Reads as slot-of-reads
+use Rattle.matching.proofs.+match_rest+try_lengths.{statement}
+use Rattle.matching.proofs.+match_rest+try_lengths.Tie.{close}
+
+abbrev μ-match-rest : Measures 3 match-rest-kinds.ps ℕ
+μ-match-rest κs a = (length (a .0 .now) - a .1 .0) * 2
+
+abbrev μ-try-lengths : Measures 3 try-lengths-kinds.ps ℕ
+μ-try-lengths κs a = (length (a .0 .now) - a .1 .0) * 2 + 1
+
+abbrev match-rest-at : ℕ → In 3 match-rest-kinds.ps
+match-rest-at t =
+    and 3 match-rest-kinds.ps (is 3 match-rest-kinds.ps μ-match-rest t) match-rest.Pre
+
+abbrev match-rest-below : ℕ → In 3 match-rest-kinds.ps
+match-rest-below t =
+    and 3 match-rest-kinds.ps (falls 3 match-rest-kinds.ps _<_ μ-match-rest t) match-rest.Pre
+
+abbrev try-lengths-at : ℕ → In 3 try-lengths-kinds.ps
+try-lengths-at t =
+    and 3 try-lengths-kinds.ps (is 3 try-lengths-kinds.ps μ-try-lengths t) try-lengths.Pre
+
+abbrev try-lengths-below : ℕ → In 3 try-lengths-kinds.ps
+try-lengths-below t =
+    and 3 try-lengths-kinds.ps (falls 3 try-lengths-kinds.ps _<_ μ-try-lengths t) try-lengths.Pre
+
+abbrev match-rest-calls : ℕ → match-rest-lts.Claims
+match-rest-calls t = (read-reads.Asked, read-reads.Learnt, slot-of-reads.Asked, slot-of-reads.Learnt, is-fresh-e-reads.Asked, is-fresh-e-reads.Learnt, try-lengths-below t, try-lengths.Post, only-end-reads.Asked, only-end-reads.Learnt, settle-reads.Asked, settle-reads.Learnt)
+
+abbrev try-lengths-calls : ℕ → try-lengths-lts.Claims
+try-lengths-calls t = (settle-reads.Asked, settle-reads.Learnt, match-rest-below t, match-rest.Post, term-end-reads.Asked, term-end-reads.Learnt)
+
+abbrev match-rest-Inv-loop : match-rest-lts.InvT-loop
+match-rest-Inv-loop left i arg at binds₀ settled here₀ place₀ known₀ binds here place known = Going left i arg at binds₀ settled here place binds known
+
+abbrev match-rest-μ-loop : match-rest-lts.MeasureT-loop
+match-rest-μ-loop left i arg at binds₀ settled here₀ place₀ known₀ binds here place known = length left - here
+
+match-rest-loop-holds : (t : ℕ) → match-rest-lts.Need-loop-holds (match-rest-calls t) (match-rest-at t) match-rest.Post match-rest-Inv-loop match-rest-μ-loop
+match-rest-loop-holds t c = going-start (c .before .before .before .pre .1)
+
+match-rest-read-requires : (t : ℕ) → match-rest-lts.Need-read-requires (match-rest-calls t) (match-rest-at t) match-rest.Post match-rest-Inv-loop match-rest-μ-loop
+match-rest-read-requires t c κs = search needs
+
+match-rest-enum-known-x : (t : ℕ) → match-rest-lts.Need-enum-known-x (match-rest-calls t) (match-rest-at t) match-rest.Post match-rest-Inv-loop match-rest-μ-loop
+match-rest-enum-known-x t c = search needs
+
+match-rest-slot-of-requires : (t : ℕ) → match-rest-lts.Need-slot-of-requires (match-rest-calls t) (match-rest-at t) match-rest.Post match-rest-Inv-loop match-rest-μ-loop
+match-rest-slot-of-requires t c κs = search needs
+
+match-rest-is-fresh-e-requires : (t : ℕ) → match-rest-lts.Need-is-fresh-e-requires (match-rest-calls t) (match-rest-at t) match-rest.Post match-rest-Inv-loop match-rest-μ-loop
+match-rest-is-fresh-e-requires t c κs = omega (arith, c .slot-of .ensures, slot-high (c .before .before .before .before .before .before .loop .inv) _ _ (rw (c .before .before .x .given .1) at (c .before .before .before .before .read .ensures)))
+
+match-rest-try-lengths-requires : (t : ℕ) → match-rest-lts.Need-try-lengths-requires (match-rest-calls t) (match-rest-at t) match-rest.Post match-rest-Inv-loop match-rest-μ-loop
+match-rest-try-lengths-requires t c κs = (omega (arith, c .before .before .before .before .before .before .before .before .before .before .before .before .before .pre .0, read-on (c .before .before .before .before .before .before .before .before .before .loop .inv) _ _ (rw (c .before .before .before .before .before .x .given .1) at (c .before .before .before .before .before .before .before .read .ensures)) (rw (c .before .before .before .before .before .x .given .1) at (c .before .before .before .before .before .before .before .read .ensures)), c .before .before .before .before .before .before .before .before .before .loop .inv .on, c .before .before .before .before .before .before .before .before .loop-test .taken), (fresh-ready (c .before .before .before .before .before .before .before .before .before .loop .inv) _ _ (rw (c .before .before .before .before .before .x .given .1) at (c .before .before .before .before .before .before .before .read .ensures)) (rw (c .before .before .before .slot-of .ensures) at (rw (c .before .if1 .taken) at (c .before .before .is-fresh-e .ensures))), (rw (c .before .if1 .taken) at (c .before .before .is-fresh-e .ensures))))
+
+match-rest-same-length : (t : ℕ) → match-rest-lts.Need-same-length (match-rest-calls t) (match-rest-at t) match-rest.Post match-rest-Inv-loop match-rest-μ-loop
+match-rest-same-length t c = search needs
+
+match-rest-returns : (t : ℕ) → match-rest-lts.Need-returns (match-rest-calls t) (match-rest-at t) match-rest.Post match-rest-Inv-loop match-rest-μ-loop
+match-rest-returns t c = going-ends (c .before .before .before .before .before .before .before .before .before .before .before .before .loop .inv) (rw (fresh-seek (c .before .before .before .before .before .before .before .before .before .before .before .before .loop .inv) _ _ (rw (c .before .before .before .before .before .before .before .before .x .given .1) at (c .before .before .before .before .before .before .before .before .before .before .read .ensures)) (rw (c .before .before .before .before .before .before .slot-of .ensures) at (rw (c .before .before .before .before .if1 .taken) at (c .before .before .before .before .before .is-fresh-e .ensures))), ← c .before .before .before .before .before .before .slot-of .ensures) (c .before .before .try-lengths .ensures))
+
+match-rest-only-end-requires : (t : ℕ) → match-rest-lts.Need-only-end-requires (match-rest-calls t) (match-rest-at t) match-rest.Post match-rest-Inv-loop match-rest-μ-loop
+match-rest-only-end-requires t c κs = rw (c .before .before .before .slot-of .ensures) (single-here (c .before .before .before .before .before .before .before .before .before .loop .inv) _ _ (rw (c .before .before .before .before .before .x .given .1) at (c .before .before .before .before .before .before .before .read .ensures)) (rw (c .before .before .before .slot-of .ensures) at (rw (c .before .if1 .left) at (c .before .before .is-fresh-e .ensures))))
+
+match-rest-enum-known-end : (t : ℕ) → match-rest-lts.Need-enum-known-end (match-rest-calls t) (match-rest-at t) match-rest.Post match-rest-Inv-loop match-rest-μ-loop
+match-rest-enum-known-end t c = search needs
+
+match-rest-settle-requires : (t : ℕ) → match-rest-lts.Need-settle-requires (match-rest-calls t) (match-rest-at t) match-rest.Post match-rest-Inv-loop match-rest-μ-loop
+match-rest-settle-requires t c κs = record { long = c .before .before .before .before .before .before .before .before .before .before .before .before .before .before .loop .inv .ready .table .long; high = omega (arith, c .before .before .before .before .before .before .before .before .slot-of .ensures, slot-high (c .before .before .before .before .before .before .before .before .before .before .before .before .before .before .loop .inv) _ _ (rw (c .before .before .before .before .before .before .before .before .before .before .x .given .1) at (c .before .before .before .before .before .before .before .before .before .before .before .before .read .ensures))) }
+
+match-rest-loop-less : (t : ℕ) → match-rest-lts.Need-loop-less (match-rest-calls t) (match-rest-at t) match-rest.Post match-rest-Inv-loop match-rest-μ-loop
+match-rest-loop-less t c = omega (arith, read-on (c .before .before .before .before .before .before .before .before .before .before .before .before .before .before .before .before .before .loop .inv) _ _ (rw (c .before .before .before .before .before .before .before .before .before .before .before .before .before .x .given .1) at (c .before .before .before .before .before .before .before .before .before .before .before .before .before .before .before .read .ensures)) (rw (c .before .before .before .before .before .before .before .before .before .before .before .before .before .x .given .1) at (c .before .before .before .before .before .before .before .before .before .before .before .before .before .before .before .read .ensures)), c .before .before .before .before .before .before .before .before .before .before .before .before .before .before .before .before .loop-test .taken)
+
+match-rest-loop-again : (t : ℕ) → match-rest-lts.Need-loop-again (match-rest-calls t) (match-rest-at t) match-rest.Post match-rest-Inv-loop match-rest-μ-loop
+match-rest-loop-again t c = going-on (c .before .before .before .before .before .before .before .before .before .before .before .before .before .before .before .before .before .loop .inv) _ _ (rw (c .before .before .before .before .before .before .before .before .before .before .before .before .before .x .given .1) at (c .before .before .before .before .before .before .before .before .before .before .before .before .before .before .before .read .ensures)) _ (rw (c .before .before .before .before .before .end .given .1) at (c .before .before .before .before .before .before .before .only-end .ensures)) (rw (c .before .before .before .before .before .before .before .before .before .before .before .slot-of .ensures) at (c .before .before .settle .ensures))
+
+match-rest-enum-told : (t : ℕ) → match-rest-lts.Need-enum-told (match-rest-calls t) (match-rest-at t) match-rest.Post match-rest-Inv-loop match-rest-μ-loop
+match-rest-enum-told t c = search needs
+
+match-rest-same-length-2 : (t : ℕ) → match-rest-lts.Need-same-length-2 (match-rest-calls t) (match-rest-at t) match-rest.Post match-rest-Inv-loop match-rest-μ-loop
+match-rest-same-length-2 t c = search needs
+
+match-rest-returns-2 : (t : ℕ) → match-rest-lts.Need-returns-2 (match-rest-calls t) (match-rest-at t) match-rest.Post match-rest-Inv-loop match-rest-μ-loop
+match-rest-returns-2 t c = going-lost (c .before .before .before .before .before .before .before .before .before .before .before .before .loop .inv) (going-stuck (c .before .before .before .before .before .before .before .before .before .before .before .before .loop .inv) _ _ (rw (c .before .before .before .before .before .before .before .before .x .given .1) at (c .before .before .before .before .before .before .before .before .before .before .read .ensures)) ((rw (c .enum-told .given .1) at (c .before .before .only-end .ensures)) .ways)) (kept-self _ _)
+
+match-rest-enum-told-2 : (t : ℕ) → match-rest-lts.Need-enum-told-2 (match-rest-calls t) (match-rest-at t) match-rest.Post match-rest-Inv-loop match-rest-μ-loop
+match-rest-enum-told-2 t c = search needs
+
+match-rest-same-length-3 : (t : ℕ) → match-rest-lts.Need-same-length-3 (match-rest-calls t) (match-rest-at t) match-rest.Post match-rest-Inv-loop match-rest-μ-loop
+match-rest-same-length-3 t c = search needs
+
+match-rest-returns-3 : (t : ℕ) → match-rest-lts.Need-returns-3 (match-rest-calls t) (match-rest-at t) match-rest.Post match-rest-Inv-loop match-rest-μ-loop
+match-rest-returns-3 t c = absurd (read-not-bad (c .before .before .before .before .loop .inv) (c .before .before .before .loop-test .taken) (rw (c .enum-told2 .given .1) at (c .before .before .read .ensures)))
+
+match-rest-enum-told-3 : (t : ℕ) → match-rest-lts.Need-enum-told-3 (match-rest-calls t) (match-rest-at t) match-rest.Post match-rest-Inv-loop match-rest-μ-loop
+match-rest-enum-told-3 t c = search needs
+
+match-rest-same-length-4 : (t : ℕ) → match-rest-lts.Need-same-length-4 (match-rest-calls t) (match-rest-at t) match-rest.Post match-rest-Inv-loop match-rest-μ-loop
+match-rest-same-length-4 t c = search needs
+
+match-rest-returns-4 : (t : ℕ) → match-rest-lts.Need-returns-4 (match-rest-calls t) (match-rest-at t) match-rest.Post match-rest-Inv-loop match-rest-μ-loop
+match-rest-returns-4 t c = absurd (read-not-over (c .before .before .before .before .loop .inv) (c .before .before .before .loop-test .taken) (rw (c .enum-told3 .given .1) at (c .before .before .read .ensures)))
+
+match-rest-same-length-5 : (t : ℕ) → match-rest-lts.Need-same-length-5 (match-rest-calls t) (match-rest-at t) match-rest.Post match-rest-Inv-loop match-rest-μ-loop
+match-rest-same-length-5 t c = search needs
+
+match-rest-returns-5 : (t : ℕ) → match-rest-lts.Need-returns-5 (match-rest-calls t) (match-rest-at t) match-rest.Post match-rest-Inv-loop match-rest-μ-loop
+match-rest-returns-5 t c = going-over (c .before .loop .inv) (omega arith)
+
+abbrev try-lengths-Inv-loop : try-lengths-lts.InvT-loop
+try-lengths-Inv-loop left j arg at binds₀ settled slot end₀ binds end = Trying left j arg at binds₀ settled slot end binds
+
+abbrev try-lengths-μ-loop : try-lengths-lts.MeasureT-loop
+try-lengths-μ-loop left j arg at binds₀ settled slot end₀ binds end = length arg - end
+
+try-lengths-settle-requires : (t : ℕ) → try-lengths-lts.Need-settle-requires (try-lengths-calls t) (try-lengths-at t) try-lengths.Post try-lengths-Inv-loop try-lengths-μ-loop
+try-lengths-settle-requires t c κs = record { long = c .before .before .before .before .before .pre .1 .0 .table .long; high = omega (arith, c .before .before .before .before .before .pre .1 .1 .high) }
+
+try-lengths-same-length : (t : ℕ) → try-lengths-lts.Need-same-length (try-lengths-calls t) (try-lengths-at t) try-lengths.Post try-lengths-Inv-loop try-lengths-μ-loop
+try-lengths-same-length t c = search needs
+
+try-lengths-returns : (t : ℕ) → try-lengths-lts.Need-returns (try-lengths-calls t) (try-lengths-at t) try-lengths.Post try-lengths-Inv-loop try-lengths-μ-loop
+try-lengths-returns t c = takes-all (c .before .before .before .before .before .before .before .before .pre .1 .0) (c .before .before .before .before .before .before .before .before .pre .1 .1) (c .before .before .before .before .if1 .taken) (c .before .before .settle .ensures)
+
+try-lengths-loop-holds : (t : ℕ) → try-lengths-lts.Need-loop-holds (try-lengths-calls t) (try-lengths-at t) try-lengths.Post try-lengths-Inv-loop try-lengths-μ-loop
+try-lengths-loop-holds t c = trying-start (c .before .before .before .before .pre .1 .0) (c .before .before .before .before .pre .1 .1)
+
+try-lengths-settle-requires-2 : (t : ℕ) → try-lengths-lts.Need-settle-requires-2 (try-lengths-calls t) (try-lengths-at t) try-lengths.Post try-lengths-Inv-loop try-lengths-μ-loop
+try-lengths-settle-requires-2 t c κs = record { long = trying-long (c .before .loop .inv); high = omega (arith, c .before .before .before .before .before .before .pre .1 .1 .high) }
+
+try-lengths-match-rest-requires : (t : ℕ) → try-lengths-lts.Need-match-rest-requires (try-lengths-calls t) (try-lengths-at t) try-lengths.Post try-lengths-Inv-loop try-lengths-μ-loop
+try-lengths-match-rest-requires t c κs = (omega (arith, c .before .before .before .before .before .before .before .before .before .before .pre .0), trying-ready (c .before .before .before .before .before .loop .inv) (c .before .before .before .settle2 .ensures))
+
+try-lengths-same-length-2 : (t : ℕ) → try-lengths-lts.Need-same-length-2 (try-lengths-calls t) (try-lengths-at t) try-lengths.Post try-lengths-Inv-loop try-lengths-μ-loop
+try-lengths-same-length-2 t c = search needs
+
+try-lengths-returns-2 : (t : ℕ) → try-lengths-lts.Need-returns-2 (try-lengths-calls t) (try-lengths-at t) try-lengths.Post try-lengths-Inv-loop try-lengths-μ-loop
+try-lengths-returns-2 t c = trying-found (c .before .before .before .before .before .before .before .before .before .loop .inv) (c .before .before .before .before .before .before .before .settle2 .ensures) (rw (c .if2 .taken) at (c .before .before .before .match-rest .ensures))
+
+try-lengths-term-end-requires : (t : ℕ) → try-lengths-lts.Need-term-end-requires (try-lengths-calls t) (try-lengths-at t) try-lengths.Post try-lengths-Inv-loop try-lengths-μ-loop
+try-lengths-term-end-requires t c κs = trying-level (c .before .before .before .before .before .before .before .before .before .loop .inv)
+
+try-lengths-enum-known-next : (t : ℕ) → try-lengths-lts.Need-enum-known-next (try-lengths-calls t) (try-lengths-at t) try-lengths.Post try-lengths-Inv-loop try-lengths-μ-loop
+try-lengths-enum-known-next t c = search needs
+
+try-lengths-loop-less : (t : ℕ) → try-lengths-lts.Need-loop-less (try-lengths-calls t) (try-lengths-at t) try-lengths.Post try-lengths-Inv-loop try-lengths-μ-loop
+try-lengths-loop-less t c = omega (arith, term-less (rw (c .before .next .given .1) at (c .before .before .before .term-end .ensures)))
+
+try-lengths-loop-again : (t : ℕ) → try-lengths-lts.Need-loop-again (try-lengths-calls t) (try-lengths-at t) try-lengths.Post try-lengths-Inv-loop try-lengths-μ-loop
+try-lengths-loop-again t c = trying-on (c .before .before .before .before .before .before .before .before .before .before .before .before .before .loop .inv) (c .before .before .before .before .before .before .before .before .before .before .before .settle2 .ensures) _ (rw (c .before .before .before .before .if2 .left) at (c .before .before .before .before .before .before .before .match-rest .ensures)) (rw (c .before .next .given .1) at (c .before .before .before .term-end .ensures))
+
+try-lengths-enum-told : (t : ℕ) → try-lengths-lts.Need-enum-told (try-lengths-calls t) (try-lengths-at t) try-lengths.Post try-lengths-Inv-loop try-lengths-μ-loop
+try-lengths-enum-told t c = search needs
+
+try-lengths-same-length-3 : (t : ℕ) → try-lengths-lts.Need-same-length-3 (try-lengths-calls t) (try-lengths-at t) try-lengths.Post try-lengths-Inv-loop try-lengths-μ-loop
+try-lengths-same-length-3 t c = search needs
+
+try-lengths-returns-3 : (t : ℕ) → try-lengths-lts.Need-returns-3 (try-lengths-calls t) (try-lengths-at t) try-lengths.Post try-lengths-Inv-loop try-lengths-μ-loop
+try-lengths-returns-3 t c = trying-over (c .before .before .before .before .before .before .before .before .before .before .before .before .loop .inv) (c .before .before .before .before .before .before .before .before .before .before .settle2 .ensures) (rw (c .before .before .before .if2 .left) at (c .before .before .before .before .before .before .match-rest .ensures)) (rw (c .enum-told .given .1) at (c .before .before .term-end .ensures))
+
+pub +match-rest+try-lengths-spec : {M : Type 1} → statement M
++match-rest+try-lengths-spec = close μ-match-rest μ-try-lengths (λ t. match-rest-lts.spec (match-rest-calls t) (match-rest-at t)
+    match-rest.Post
+    match-rest-Inv-loop
+    match-rest-μ-loop
+    (match-rest-loop-holds t)
+    (match-rest-read-requires t)
+    (match-rest-enum-known-x t)
+    (match-rest-slot-of-requires t)
+    (match-rest-is-fresh-e-requires t)
+    (match-rest-try-lengths-requires t)
+    (match-rest-same-length t)
+    (match-rest-returns t)
+    (match-rest-only-end-requires t)
+    (match-rest-enum-known-end t)
+    (match-rest-settle-requires t)
+    (match-rest-loop-less t)
+    (match-rest-loop-again t)
+    (match-rest-enum-told t)
+    (match-rest-same-length-2 t)
+    (match-rest-returns-2 t)
+    (match-rest-enum-told-2 t)
+    (match-rest-same-length-3 t)
+    (match-rest-returns-3 t)
+    (match-rest-enum-told-3 t)
+    (match-rest-same-length-4 t)
+    (match-rest-returns-4 t)
+    (match-rest-same-length-5 t)
+    (match-rest-returns-5 t))
+    λ t. try-lengths-lts.spec (try-lengths-calls t) (try-lengths-at t)
+    try-lengths.Post
+    try-lengths-Inv-loop
+    try-lengths-μ-loop
+    (try-lengths-settle-requires t)
+    (try-lengths-same-length t)
+    (try-lengths-returns t)
+    (try-lengths-loop-holds t)
+    (try-lengths-settle-requires-2 t)
+    (try-lengths-match-rest-requires t)
+    (try-lengths-same-length-2 t)
+    (try-lengths-returns-2 t)
+    (try-lengths-term-end-requires t)
+    (try-lengths-enum-known-next t)
+    (try-lengths-loop-less t)
+    (try-lengths-loop-again t)
+    (try-lengths-enum-told t)
+    (try-lengths-same-length-3 t)
+    (try-lengths-returns-3 t)

@@ -1,0 +1,6 @@
+pub mod Slots
+pub mod Sides
+pub mod Ends
+pub mod Going
+pub mod Lengths
+pub mod Whole
