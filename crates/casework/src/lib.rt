@@ -1,0 +1,100 @@
+// What the case programs share: numbers and bytes off standard input, and lines to standard output.
+use libc::STDIN_FILENO;
+use libc::STDOUT_FILENO;
+ghost use Prim.Native.Nat.{_≤_, _<_};
+ghost use lib.ListN.{length};
+
+pub enum Word {
+    Is(u32),
+    Over,
+}
+
+fn wide(b: u8) -> u32
+    ensures { λ r. ⌜ r < 256 ⌝ }
+{
+    b as u32
+}
+
+// A number of four bytes, the low byte first; Over where the input ends.
+pub fn number() -> Word {
+    let mut b = [0u8; 4];
+    if io::read_full(STDIN_FILENO, &mut b) < 4 {
+        return Word::Over;
+    }
+    Word::Is(wide(b[0]) + wide(b[1]) * 256 + wide(b[2]) * 65536 + wide(b[3]) * 16777216)
+}
+
+// A number, or 0 where the input ends.
+pub fn number_or_zero() -> u32 {
+    match number() {
+        Word::Is(n) => n,
+        Word::Over => 0,
+    }
+}
+
+// A length that fits a buffer, and that many bytes of it; 0 where it does not fit.
+pub fn load(buf: &mut [u8]) -> usize
+    ensures { λ r. ⌜ r ≤ length (now (buf .exit)) ⌝ }
+{
+    let n = number_or_zero() as usize;
+    if buf.len() < n {
+        return 0;
+    }
+    io::read_full(STDIN_FILENO, &mut buf[0..n]);
+    n
+}
+
+// So many bytes as a buffer holds.
+pub fn fill(buf: &mut [u8]) {
+    io::read_full(STDIN_FILENO, buf);
+}
+
+pub fn text(s: &[u8]) {
+    io::write_all(STDOUT_FILENO, s);
+}
+
+pub fn decimal(n: u64) {
+    io::print_decimal(STDOUT_FILENO, n);
+}
+
+fn hex_digit(d: u8) -> u8
+    requires { ⌜ d < 16 ⌝ }
+{
+    if d < 10 { 48 + d } else { 55 + d }
+}
+
+// One byte, as two digits of upper-case hex.
+pub fn hex_byte(b: u8) {
+    let pair = [hex_digit(b / 16), hex_digit(b % 16)];
+    io::write_all(STDOUT_FILENO, &pair);
+}
+
+pub fn hex(s: &[u8]) {
+    let mut i = 0;
+    while i < s.len() {
+        hex_byte(s[i]);
+        i += 1;
+    }
+}
+
+fn spread(x: u32) -> u32 {
+    (((x as u64) * 16777619) % 4294967296) as u32
+}
+
+// The hash FNV-1a of some bytes.
+pub fn hash(s: &[u8]) -> u32 {
+    let mut h: u32 = 2166136261;
+    let mut i = 0;
+    while i < s.len() {
+        h = spread(h ^ wide(s[i]));
+        i += 1;
+    }
+    h
+}
+
+pub fn hex_word(n: u32) {
+    hex_byte((n / 16777216) as u8);
+    hex_byte((n / 65536 % 256) as u8);
+    hex_byte((n / 256 % 256) as u8);
+    hex_byte((n % 256) as u8);
+}
