@@ -10,15 +10,23 @@ use lib.ListN.{length, getD, take, drop, length-append, length-take, length-drop
 use lib.Seq.{getD-take, getD-drop, take-nil, drop-nil, drop-cons, take-take, length-take-le, take-all}
 use lib.Dec.{leb, eqb}
 use borrow.Author.Tests.{le-leb, lt-leb, leb-true, eqb-true, eqb-false}
-use Rattle.meaning.specs.Elements.{Element, kind, body, cut, isVariable}
+use Rattle.meaning.specs.Elements.{Element, kind, body, cut, join, size, isVariable}
 use Rattle.meaning.proofs.Truth.{and-false, and-left, and-right, Seen, is-true, is-false, see}
 use Rattle.meaning.proofs.Truth.{never}
 use Rattle.meaning.proofs.Cutting.{Whole, w-none, w-more, cut-at}
 use Rattle.building.specs.Build.{sideOf, slotOf, valueOf, piece, pour, Held, Ready, ready-none, ready-more, Known, Put, Poured}
 
-kind-first : (e : Element) → kind e ≡ getD e 0 0
+pub kind-first : (e : Element) → kind e ≡ getD e 0 0
 kind-first [] = refl
 kind-first (k ∷ b) = refl
+
+pub size-nil : size [] ≡ 0
+unfolding size join
+size-nil = refl
+
+pub size-cons : (e : Element) (es : List Element) → size (e ∷ es) ≡ length e + size es
+unfolding size join
+size-cons e es = length-append e (join es)
 
 module _ (p : List ℕ) (at len : ℕ) (f b : List ℕ) (w : Known p at len f b) where
   pub kind-is : kind (take len (drop at p)) ≡ getD p at 0

@@ -1,3 +1,4 @@
+// Builds a right side with the values of its variables, and puts it in the place of the leading term.
 ghost use mathlib.Core.Path.{_≡_};
 ghost use mathlib.Core.Bool.{true};
 ghost use Prim.Native.Nat.{ℕ, _+_, _-_, _*_, _≤_, _<_};
@@ -72,16 +73,16 @@ fn put_element(
     program: &[u8],
     at: usize,
     len: usize,
-    field: &[u8],
+    arg: &[u8],
     binds: &[usize],
     out: &mut [u8],
     n: usize,
     limit: usize,
 ) -> Built
-    requires { ⌜ Known (now program) at len (now field) (now binds) ⌝ }
+    requires { ⌜ Known (now program) at len (now arg) (now binds) ⌝ }
     requires { ⌜ length (now binds) ≡ 96 ⌝ }
     requires { ⌜ (n ≤ limit) × (limit ≤ length (now out)) ⌝ }
-    ensures { λ r. ⌜ Put n limit (now (out .entry)) (piece (now (field .entry)) (now (binds .entry)) (take len (drop at (now (program .entry))))) (r .fits) (r .n) (now (out .exit)) ⌝ }
+    ensures { λ r. ⌜ Put n limit (now (out .entry)) (piece (now (arg .entry)) (now (binds .entry)) (take len (drop at (now (program .entry))))) (r .fits) (r .n) (now (out .exit)) ⌝ }
 {
     let k = wide(program[at]);
     if k < 8 {
@@ -94,7 +95,7 @@ fn put_element(
     let s = (k - 8) * 16 + v;
     let from = binds[s];
     let to = binds[s + 48];
-    put_part(field, from, to - from, out, n, limit)
+    put_part(arg, from, to - from, out, n, limit)
 }
 
 // Builds the right side program[from..to] with the values of the table.
@@ -102,23 +103,23 @@ pub fn build(
     program: &[u8],
     from: usize,
     to: usize,
-    field: &[u8],
+    arg: &[u8],
     binds: &[usize],
     out: &mut [u8],
     limit: usize,
 ) -> Built
     requires { ⌜ (from ≤ to) × (to ≤ length (now program)) ⌝ }
     requires { ⌜ Whole (sideOf (now program) from to) ⌝ }
-    requires { ⌜ Ready (now field) (now binds) (sideOf (now program) from to) ⌝ }
+    requires { ⌜ Ready (now arg) (now binds) (sideOf (now program) from to) ⌝ }
     requires { ⌜ length (now binds) ≡ 96 ⌝ }
     requires { ⌜ limit ≤ length (now out) ⌝ }
-    ensures { λ r. ⌜ Poured limit (pour (now (field .entry)) (now (binds .entry)) (sideOf (now (program .entry)) from to)) (r .fits) (r .n) (now (out .exit)) ⌝ }
+    ensures { λ r. ⌜ Poured limit (pour (now (arg .entry)) (now (binds .entry)) (sideOf (now (program .entry)) from to)) (r .fits) (r .n) (now (out .exit)) ⌝ }
 {
     let mut at = from;
     let mut n: usize = 0;
     while at < to {
         let len = 1 + kinds::body_of(program[at]);
-        let b = put_element(program, at, len, field, binds, out, n, limit);
+        let b = put_element(program, at, len, arg, binds, out, n, limit);
         if !b.fits {
             return Built { fits: false, n };
         }

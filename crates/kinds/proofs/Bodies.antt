@@ -1,10 +1,11 @@
 -- The word of body lengths, read off the table once for all its entries.
 use mathlib.Core.Path.{_≡_}
-use mathlib.Core.Bool.{Bool}
+use mathlib.Core.Bool.{Bool, true, _||_}
+use native.Mathlib.Omega.{arith}
 use Prim.Native.Nat.{ℕ, _*_, _/_, _%_, _^_, _≤_, _<_}
-use lib.Dec.{eqb}
-use lib.ListN.{List·getD-eq-default}
-use borrow.Author.Tests.{eqb-true}
+use lib.Dec.{eqb, leb}
+use lib.ListN.{getD, List·getD-eq-default}
+use borrow.Author.Tests.{eqb-true, lt-leb}
 use Rattle.meaning.specs.Elements.{body, bodies}
 use Rattle.meaning.proofs.Truth.{T-true}
 use Rattle.meaning.proofs.Tables.{table-at}
@@ -19,3 +20,13 @@ body-known k h = eqb-true _ _ (T-true _ (table-at three-bits bodies tt k h))
 pub body-unknown : (k : ℕ) → 16 ≤ k → body k ≡ 0
 unfolding body
 body-unknown k h = List·getD-eq-default bodies 0 {n = k} h
+
+one-for-variables : ℕ → ℕ → Bool
+one-for-variables k n = leb k 7 || (leb 11 k || eqb n 1)
+
+-- a variable's body is its number
+pub body-var : (k : ℕ) → 8 ≤ k → k ≤ 10 → body k ≡ 1
+unfolding body one-for-variables
+body-var k h l =
+    let q : one-for-variables k (getD bodies k 0) ≡ true = T-true _ (table-at one-for-variables bodies tt k (omega arith)) in
+    eqb-true (getD bodies k 0) 1 (rw (lt-leb k 7 (omega arith), lt-leb 11 k (omega arith)) at q)
