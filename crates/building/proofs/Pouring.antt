@@ -1,17 +1,17 @@
 -- A side built element by element.
-use mathlib.Core.Path.{_≡_, refl, sym, _∙_, ap, ap₂, subst}
-use mathlib.Core.Bool.{Bool, true, false, _&&_, cond, not}
+use mathlib.Core.Path.{_≡_, refl, sym, _∙_, ap, subst}
+use mathlib.Core.Bool.{Bool, true, false}
 use mathlib.Core.List.{List, [], _∷_, _++_, append-assoc, append-nil}
-use Prim.Native.Nat.{ℕ, zero, suc, _+_, _*_, _-_, _≤_, _<_, min}
+use Prim.Native.Nat.{ℕ, zero, suc, _+_, _-_, _≤_, _<_}
 use native.Mathlib.Omega.{arith}
 use native.Mathlib.Nat.{zero-add, suc-add}
 use native.Mathlib.Numerals.{add-one}
 use lib.ListN.{length, getD, take, drop, length-append, length-take, length-drop, drop-of-length-le}
-use lib.Seq.{getD-take, getD-drop, take-nil, drop-nil, drop-cons, take-take, length-take-le, take-all}
+use lib.Seq.{getD-take, getD-drop, take-nil, drop-cons, take-take, length-take-le}
 use lib.Dec.{leb, eqb}
 use borrow.Author.Tests.{le-leb, lt-leb, leb-true, eqb-true, eqb-false}
 use Rattle.meaning.specs.Elements.{Element, kind, body, cut, join, size, isVariable}
-use Rattle.meaning.proofs.Truth.{and-false, and-left, and-right, Seen, is-true, is-false, see}
+use Rattle.meaning.proofs.Truth.{and-false, and-left, and-right, is-true, is-false, see}
 use Rattle.meaning.proofs.Truth.{never}
 use Rattle.meaning.proofs.Cutting.{Whole, w-none, w-more, cut-at}
 use Rattle.building.specs.Build.{sideOf, slotOf, valueOf, piece, pour, Held, Ready, ready-none, ready-more, Known, Put, Poured}

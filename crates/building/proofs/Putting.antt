@@ -1,13 +1,13 @@
 -- Replacing a part of a list, and putting parts one behind the other.
-use mathlib.Core.Path.{_≡_, refl, sym, _∙_, ap, ap₂, subst}
-use mathlib.Core.Bool.{Bool, true, false}
-use mathlib.Core.List.{List, [], _∷_, _++_, append-assoc, append-nil}
-use Prim.Native.Nat.{ℕ, zero, suc, _+_, _-_, _≤_, _<_}
+use mathlib.Core.Path.{_≡_, refl, sym, _∙_, ap, ap₂}
+use mathlib.Core.Bool.{true, false}
+use mathlib.Core.List.{List, _++_, append-assoc}
+use Prim.Native.Nat.{ℕ, _+_, _-_, _≤_, _<_}
 use native.Mathlib.Omega.{arith}
-use lib.ListN.{length, getD, take, drop, length-append, length-take, length-drop}
+use lib.ListN.{length, take, drop, length-take, length-drop}
 use lib.Seq.{paste, length-paste, length-paste-head, take-paste, take-append-le, take-append-add, take-take, drop-at, take-at, length-take-le}
 use Rattle.meaning.proofs.Truth.{never}
-use Rattle.building.specs.Build.{Put, Poured, Replaced}
+use Rattle.building.specs.Build.{Put, Replaced}
 
 module _ (f new : List ℕ) (used from stop n : ℕ) (h1 : from ≤ stop) (h2 : stop ≤ used) (h3 : used ≤ length f) (h4 : n ≤ length new) (h5 : from + n + (used - stop) ≤ length f) where
   tl : ℕ

@@ -1,12 +1,11 @@
 // Builds a right side with the values of its variables, and puts it in the place of the leading term.
 ghost use mathlib.Core.Path.{_≡_};
 ghost use mathlib.Core.Bool.{true};
-ghost use Prim.Native.Nat.{ℕ, _+_, _-_, _*_, _≤_, _<_};
-ghost use lib.ListN.{length, take, drop, getD};
+ghost use Prim.Native.Nat.{_+_, _-_, _*_, _≤_, _<_};
+ghost use lib.ListN.{length, take, drop};
 ghost use lib.Seq.{paste};
-ghost use Rattle.meaning.specs.Elements.{body, isVariable};
 ghost use Rattle.meaning.proofs.Cutting.{Whole};
-ghost use Rattle.building.specs.Build.{sideOf, slotOf, piece, pour, Ready, Known, Put, Poured, Replaced};
+ghost use Rattle.building.specs.Build.{sideOf, piece, pour, Ready, Known, Put, Poured, Replaced};
 
 // Moves n bytes from `from` on to `at` on.
 fn shift(s: &mut [u8], from: usize, at: usize, n: usize)

@@ -1,11 +1,11 @@
 -- Loops that copy, partAfter and clear: what they have done after i turns.
 use mathlib.Core.Path.{_≡_, refl, sym, _∙_, ap, subst}
-use mathlib.Core.List.{List, [], _∷_, _++_, append-assoc, append-nil}
-use Prim.Native.Nat.{ℕ, zero, suc, _+_, _-_, _≤_, _<_}
+use mathlib.Core.List.{List, [], _∷_, _++_, append-assoc}
+use Prim.Native.Nat.{ℕ, suc, _+_, _-_, _≤_, _<_}
 use native.Mathlib.Omega.{arith}
 use native.Mathlib.Numerals.{add-one}
 use lib.ListN.{length, getD, take, drop, set, replicate, length-append, length-take, length-drop, length-set, length-replicate, getD-replicate, List·getD-append}
-use lib.Seq.{paste, paste-zero, paste-suc, length-paste, length-paste-head, getD-append-add, getD-drop, getD-take, take-set-lt, take-suc-set, drop-cons, set-append-left, take-all}
+use lib.Seq.{paste, paste-zero, paste-suc, length-paste-head, getD-append-add, getD-drop, getD-take, take-set-lt, take-suc-set, drop-cons, set-append-left, take-all}
 
 -- d is d₀ with i of s's elements pasted in
 pub record Copied (d₀ : List ℕ) (at : ℕ) (s : List ℕ) (n : ℕ) (d : List ℕ) (i : ℕ) : Type 0 where

@@ -64,10 +64,6 @@ not-var-6 : (e : Element) → kind e ≡ 6 → isVariable e ≡ false
 unfolding isVariable
 not-var-6 e k = rw k
 
-var-not : (e : Element) (j : ℕ) → isVariable e ≡ true → j < 8 → kind e ≡ j → ⊥
-unfolding isVariable
-var-not e j h l k = never (let q : false ≡ true = sym (rw (k, lt-leb 8 j l)) ∙ h in cc)
-
 -- a < is noted with its offset, another element is not
 abbrev pub Noted : ℕ → ℕ → ℕ → List ℕ → ℕ → List ℕ → Type 0
 Noted k at d calls d′ calls′ = ((k ≡ 6) × (calls′ ≡ set calls d at) × (d′ ≡ d + 1)) ⊎ ((k ≡ 6 → ⊥) × (calls′ ≡ calls) × (d′ ≡ d))

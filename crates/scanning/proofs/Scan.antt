@@ -1,22 +1,20 @@
 -- One element after the other: what the scan knows.
 use mathlib.Core.Path.{_≡_, refl, sym, _∙_, ap, ap₂}
 use native.Mathlib.Numerals.{add-one}
-use mathlib.Core.Bool.{Bool, true, false, _||_}
-use mathlib.Core.Option.{some}
+use mathlib.Core.Bool.{false}
 use mathlib.Core.List.{List, [], _∷_, _++_, append-assoc, append-nil}
-use Prim.Native.Nat.{ℕ, zero, suc, _+_, _*_, _-_, _≤_, _<_, min}
+use Prim.Native.Nat.{ℕ, zero, suc, _+_, _*_, _-_, _≤_, _<_}
 use native.Mathlib.Omega.{arith}
-use lib.ListN.{length, getD, take, drop, set, length-append, length-take, length-set}
+use lib.ListN.{length, getD, take, set, length-set}
 use lib.Seq.{getD-set-same, getD-set-other, getD-take, getD-at, length-take-le}
-use lib.Dec.{eqb}
 use mathlib.Core.Logic.{_⊎_, inl, inr}
-use borrow.Author.Tests.{eq-eqb, ne-eqb}
-use Rattle.meaning.specs.Elements.{Element, kind, body, cut, join, size, isKind}
+use borrow.Author.Tests.{ne-eqb}
+use Rattle.meaning.specs.Elements.{Element, kind, body, join, size, isKind}
 use Rattle.meaning.proofs.Truth.{never}
 use Rattle.meaning.specs.Machine.{holds}
-use Rattle.meaning.proofs.Cutting.{Whole, w-none, w-more, join-cut, body-le}
+use Rattle.meaning.proofs.Cutting.{Whole, w-none, w-more, join-cut}
 use Rattle.meaning.proofs.Leading.{holds-append, join-append, size-append}
-use Rattle.scanning.specs.State.{fieldOf, stack, Good, Opens, none-open, one-open, Scanned, Found}
+use Rattle.scanning.specs.State.{fieldOf, stack, Good, Opens, none-open, one-open, Scanned}
 
 stack-set : (d i v : ℕ) (s : List ℕ) → d ≤ i → stack d (set s i v) ≡ stack d s
 unfolding stack

@@ -1,12 +1,11 @@
-use Prim.Native.Nat.{ℕ, _+_, _≤_, _<_, _-_}
+use Prim.Native.Nat.{_≤_, _-_}
 use native.Mathlib.Omega.{arith}
-use mathlib.Core.Path.{_≡_, refl, sym, _∙_, ap}
+use mathlib.Core.Path.{_≡_, refl, _∙_}
 use mathlib.Core.Logic.{⊎-elim, inl, inr}
-use lib.ListN.{length, drop, getD, length-set}
+use lib.ListN.{length}
 use borrow.Author.Needs.{needs}
-use Rattle.meaning.proofs.Cutting.{body-le}
 use Rattle.meaning.proofs.Truth.{never}
-use Rattle.scanning.specs.State.{Good, Scanned, Found}
+use Rattle.scanning.specs.State.{Scanned}
 use Rattle.scanning.proofs.Scan.{place-le, past}
 use Rattle.scanning.proofs.next_close.Statement.{statement}
 use Rattle.scanning.proofs.next_close.Tie as tie
