@@ -6,3 +6,4 @@ pub mod Items
 pub mod Stepping
 pub mod Reading
 pub mod Scratch
+pub mod Only

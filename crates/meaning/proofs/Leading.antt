@@ -108,7 +108,7 @@ leading-right (e ∷ es) B {a} {c} {x} {b} h =
     ]
 
 -- the elements before X keep their place: no > among them, and in Y a < comes before the first >
-leading-left : (A Y : List Element) {a : List Element} {c : Element} {x b : List Element}
+pub leading-left : (A Y : List Element) {a : List Element} {c : Element} {x b : List Element}
     → holds 7 A ≡ false → holds 6 (before 7 Y) ≡ true → leading Y ≡ lead a c x b → leading (A ++ Y) ≡ lead (A ++ a) c x b
 unfolding innermost holds shift
 leading-left [] Y n m h = h

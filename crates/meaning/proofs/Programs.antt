@@ -63,7 +63,7 @@ passes-shuts p o vs e t =
     rw (and-left (implies (eqb (kind e) 5) (eqb (top o) 4)) _ (t .fit)) (and-left (implies (eqb (kind e) 7) (eqb (top o) 6)) _ r)
 
 -- nothing is open at the end of a side
-shut-empty : (p : Part) (o : List ℕ) (vs : List Element) (e : Element) → Passed p o vs e → endsSide (kind e) ≡ true → o ≡ []
+pub shut-empty : (p : Part) (o : List ℕ) (vs : List Element) (e : Element) → Passed p o vs e → endsSide (kind e) ≡ true → o ≡ []
 unfolding paired
 shut-empty p [] vs e t h = refl
 shut-empty p (b ∷ o) vs e t h =
@@ -223,7 +223,7 @@ Left ended o vs es = es ≡ []
 plain-more : (e : Element) {es : List Element} → eqb (kind e) 13 ≡ false → Functions es → Functions (e ∷ es)
 plain-more e n t = f-more (λ k. absurd (eqb-false (kind e) 13 n k)) t
 
-among-append : (e x : Element) (vs : List Element) → among e (vs ++ (x ∷ [])) ≡ true → (among e vs ≡ true) ⊎ (e ≡ x)
+pub among-append : (e x : Element) (vs : List Element) → among e (vs ++ (x ∷ [])) ≡ true → (among e vs ≡ true) ⊎ (e ≡ x)
 unfolding among
 among-append e x [] h = elim (see (same e x)) [ is-true z ↦ inr (same-eq e x z) | is-false z ↦ never (let k : false ≡ true = rw z at h in cc) ]
 among-append e x (v ∷ vs) h =
@@ -300,7 +300,7 @@ right-end e vs es k i = record {
 }
 
 -- a kind that cannot stand in a part is not the kind of an element there
-other-kind : (p : Part) (o : List ℕ) (vs : List Element) (e : Element) (j : ℕ) → Passed p o vs e → stands p j ≡ false → eqb (kind e) j ≡ false
+pub other-kind : (p : Part) (o : List ℕ) (vs : List Element) (e : Element) (j : ℕ) → Passed p o vs e → stands p j ≡ false → eqb (kind e) j ≡ false
 other-kind p o vs e j t h = ne-eqb (kind e) j (λ q. never (let k : stands p j ≡ true = rw q at (t .place) in cc))
 
 -- an element of a right side

@@ -92,7 +92,7 @@ after-one o e X h =
       | is-false z ↦ never (cc (brackets-no o e X z))
     ]
 
-some-leading : (X : List Element) (o : List ℕ) → brackets o X ≡ some [] → holds 6 X ≡ true → leading X ≡ nothing → ⊥
+pub some-leading : (X : List Element) (o : List ℕ) → brackets o X ≡ some [] → holds 6 X ≡ true → leading X ≡ nothing → ⊥
 unfolding holds innermost
 some-leading [] o h k n = never (cc)
 some-leading (e ∷ X) o h k n =

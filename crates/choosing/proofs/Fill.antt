@@ -1,0 +1,237 @@
+-- The sentences of a body in turn.
+use mathlib.Core.Path.{_≡_, refl, sym, _∙_, ap, subst}
+use mathlib.Core.Bool.{Bool, true, false}
+use mathlib.Core.Option.{none, some}
+use mathlib.Core.List.{List, [], _∷_, _++_, append-assoc, append-nil}
+use Prim.Native.Nat.{ℕ, suc, _+_, _-_, _≤_, _<_}
+use native.Mathlib.Omega.{arith}
+use lib.Seq.{length-take-le, take-add, drop-at}
+use lib.ListN.{length, getD, take, drop}
+use lib.Dec.{leb}
+use borrow.Author.Tests.{eq-eqb, eqb-true, leb-true, leb-false}
+use Rattle.meaning.specs.Elements.{Element, elements, kind, body, size, isKind, isVariable}
+use Rattle.meaning.specs.Matching.{plain, role, put, Env, free, seek, given}
+use Rattle.meaning.specs.Machine.{before, behind, holds, pieces, onto, apply}
+use Rattle.meaning.proofs.Truth.{never, is-true, is-false, see, or-false}
+use Rattle.meaning.proofs.Cutting.{Whole}
+use Rattle.meaning.proofs.Searching.{given-itself}
+use Rattle.meaning.proofs.Leading.{holds-append, before-none}
+use Rattle.meaning.proofs.Programs.{before-here, behind-here, behind-on, pieces-end, pieces-on}
+use Rattle.matching.specs.Binding.{LeftSide, Matched, no-fit, first-fit}
+use Rattle.building.specs.Build.{sideOf, pour, Ready}
+use Rattle.choosing.specs.Choose.{restOf, sentences, Sentence, Body, body-end, body-more, Chosen, none-fits, one-fits}
+use Rattle.choosing.proofs.Rest.{whole-left, whole-right, whole-one, size-nil, size-cons, side-middle, side-behind, middle-within, behind-whole, rest-is, kind-el, first-kind, rest-end}
+use Rattle.choosing.proofs.Values.{valued, Has, ready, poured, put-whole, calm}
+
+-- CUTTING A BODY INTO SENTENCES
+pieces-first : (xs : List Element) (s : Element) (ys : List Element) → holds 12 xs ≡ false → isKind 12 s ≡ true → pieces 12 (xs ++ (s ∷ ys)) ≡ xs ∷ pieces 12 ys
+unfolding holds onto
+pieces-first [] s ys h k = pieces-end 12 s ys k
+pieces-first (x ∷ xs) s ys h k =
+    let m = or-false (isKind 12 x) (holds 12 xs) h in
+    pieces-on 12 x (xs ++ (s ∷ ys)) (m .0) ∙ rw (pieces-first xs s ys (m .1) k)
+
+pub before-at : (k : ℕ) (xs : List Element) (s : Element) (ys : List Element) → holds k xs ≡ false → isKind k s ≡ true → before k (xs ++ (s ∷ ys)) ≡ xs
+before-at k xs s ys h e = before-none k xs (s ∷ ys) h ∙ rw (before-here k s ys e) (append-nil xs)
+
+pub behind-at : (k : ℕ) (xs : List Element) (s : Element) (ys : List Element) → holds k xs ≡ false → isKind k s ≡ true → behind k (xs ++ (s ∷ ys)) ≡ ys
+unfolding holds
+behind-at k [] s ys h e = behind-here k s ys e
+behind-at k (x ∷ xs) s ys h e = let m = or-false (isKind k x) (holds k xs) h in behind-on k x (xs ++ (s ∷ ys)) (m .0) ∙ behind-at k xs s ys (m .1) e
+
+-- the first sentence of a body: its left side, =, its right side, its end
+pub record FirstSentence (es : List Element) : Type 0 where
+  pub l : List Element
+  pub r : List Element
+  pub rest : List Element
+  pub q : Element
+  pub s : Element
+  pub sent : Sentence l r
+  pub kq : kind q ≡ 11
+  pub ks : kind s ≡ 12
+  pub more : Body rest
+  pub parts : es ≡ l ++ (q ∷ (r ++ (s ∷ rest)))
+
+module _ (l r rest : List Element) (q s : Element) (g : Sentence l r) (kq : kind q ≡ 11) (ks : kind s ≡ 12) where
+  no-14 : holds 14 ((l ++ (q ∷ r)) ++ (s ∷ [])) ≡ false
+  unfolding holds
+  no-14 = simp (holds-append, g .l14, g .r14, kq, ks)
+
+  no-12 : holds 12 (l ++ (q ∷ r)) ≡ false
+  unfolding holds
+  no-12 = simp (holds-append, g .l12, g .r12, kq)
+
+  split : sentences (l ++ (q ∷ (r ++ (s ∷ rest)))) ≡ (l ++ (q ∷ r)) ∷ sentences rest
+  unfolding sentences
+  split =
+      ap (λ (z : List Element). pieces 12 (before 14 z)) (sym (append-assoc (l ++ (q ∷ r)) (s ∷ []) rest ∙ append-assoc l (q ∷ r) (s ∷ rest)))
+      ∙ ap (pieces 12) (before-none 14 _ rest no-14)
+      ∙ ap (pieces 12) (append-assoc (l ++ (q ∷ r)) (s ∷ []) (before 14 rest))
+      ∙ pieces-first (l ++ (q ∷ r)) s (before 14 rest) no-12 (rw ks)
+
+module _ {es : List Element} (n : FirstSentence es) (x : List Element) where
+  apply-first : apply (sentences es) x ≡ apply ((n .l ++ (n .q ∷ n .r)) ∷ sentences (n .rest)) x
+  apply-first = ap (λ (z : List (List Element)). apply z x) (ap sentences (n .parts) ∙ split (n .l) (n .r) (n .rest) (n .q) (n .s) (n .sent) (n .kq) (n .ks))
+
+  left-first : before 11 (n .l ++ (n .q ∷ n .r)) ≡ n .l
+  left-first = before-at 11 (n .l) (n .q) (n .r) (n .sent .l11) (rw (n .kq))
+
+  apply-lost : seek (n .l) x free ≡ none → apply (sentences es) x ≡ apply (sentences (n .rest)) x
+  unfolding apply
+  apply-lost h = apply-first ∙ rw (left-first, h, apply)
+
+  apply-won : (env : Env) → seek (n .l) x free ≡ some env → apply (sentences es) x ≡ some (put (given env) (n .r))
+  unfolding apply
+  apply-won env h = apply-first ∙ rw (left-first, h, apply) (rw (behind-at 11 (n .l) (n .q) (n .r) (n .sent .l11) (rw (n .kq))))
+
+not-var : (e : Element) → isVariable e ≡ false → role e ≡ plain
+unfolding role isVariable
+not-var e h =
+    elim (see (isKind 8 e)) [
+      | is-true z ↦ never (let k = eqb-true (kind e) 8 z in let y : true ≡ false = rw k at h in cc)
+      | is-false z ↦
+          elim (see (isKind 9 e)) [
+            | is-true y ↦ never (let k = eqb-true (kind e) 9 y in let x : true ≡ false = rw k at h in cc)
+            | is-false y ↦
+                elim (see (isKind 10 e)) [
+                  | is-true x ↦ never (let k = eqb-true (kind e) 10 x in let w : true ≡ false = rw k at h in cc)
+                  | is-false x ↦ rw (z, y, x)
+                ]
+          ]
+    ]
+
+-- THE SENTENCE AT A PLACE
+
+-- from `at` up to mid stand the elements a, at mid one byte, behind it the elements b
+pub record Cut (p : List ℕ) (at mid : ℕ) (a b : List Element) : Type 0 where
+  pub front : sideOf p at mid ≡ a
+  pub front-whole : Whole a
+  pub behind : restOf p (mid + 1) ≡ b
+  pub behind-whole : Whole (restOf p (mid + 1))
+  pub up : at ≤ mid
+  pub fits : mid + 1 ≤ length p
+
+-- the elements up to the first of kind k, which has no body
+cut-off : (p : List ℕ) (at mid k : ℕ) (a : List Element) (e : Element) (b : List Element) → at ≤ length p → Whole (restOf p at) → restOf p at ≡ a ++ (e ∷ b)
+    → holds k a ≡ false → kind e ≡ k → body k ≡ 0 → mid ≡ at + size (before k (restOf p at)) → Cut p at mid a b
+unfolding restOf
+cut-off p at mid k a e b h w parts lacks ke bare em =
+    let le : length p ≤ length p = omega arith in
+    let m : mid ≡ at + size a = em ∙ ap {B = ℕ} (λ z. at + size z) (ap (before k) parts ∙ before-at k a e b lacks (eq-eqb (kind e) k ke)) in
+    let long : length e ≡ 1 = whole-one e b (e ∷ b) refl (whole-right a (e ∷ b) _ parts w) ∙ rw ke (ap suc bare) in
+    let one : size (e ∷ []) ≡ 1 = omega (arith, size-cons e [], size-nil) in
+    let i : at + size [] ≡ at = omega (arith, size-nil) in
+    let j : at + size [] + size a ≡ mid = omega (arith, size-nil) in
+    let n : at + size a + size (e ∷ []) ≡ mid + 1 = omega arith in
+    let z = rw n at (side-behind p at (length p) le h a (e ∷ []) b parts w) in
+    record {
+      front = rw (j, i) at (side-middle p at (length p) le h [] a (e ∷ b) parts w);
+      front-whole = whole-left a (e ∷ b) _ parts w;
+      behind = z;
+      behind-whole = subst Whole (sym z) (behind-whole p at (length p) le h a (e ∷ []) b parts w);
+      up = omega arith;
+      fits = rw n at (middle-within p at (length p) le h a (e ∷ []) b parts w);
+    }
+
+-- the same elements, of the part that a slice from `at` up to mid has
+part-is : {p : List ℕ} {at mid : ℕ} {a b : List Element} → Cut p at mid a b → elements (take (mid - at) (drop at p)) ≡ a
+unfolding sideOf
+part-is {p} {at} {mid} c =
+    let u = c .up in let v = c .fits in
+    let q : mid ≡ at + (mid - at) = omega arith in
+    let part : drop at (take mid p) ≡ take (mid - at) (drop at p) =
+    ap (λ (n : ℕ). drop at (take n p)) q ∙ ap (drop at) (take-add at (mid - at) p) ∙ drop-at (take at p) _ at (length-take-le at p (omega arith)) in
+    ap elements (sym part) ∙ c .front
+
+nonempty : {zs : List Element} → Body zs → zs ≡ [] → ⊥
+nonempty (body-end e es k q) z = never (cc)
+nonempty (body-more {l = []} q s g kq ks b e) z = never (cc)
+nonempty (body-more {l = x ∷ l} q s g kq ks b e) z = never (cc)
+
+pub body-here : (p : List ℕ) (at : ℕ) → Body (restOf p at) → at < length p
+body-here p at b =
+    elim (see (leb (length p) at)) [
+      | is-true z ↦ absurd (nonempty b (rest-end p at (leb-true _ _ z)))
+      | is-false z ↦ leb-false _ _ z
+    ]
+
+-- the sentence at a place, with the places of its = and of its end
+pub record SentenceAt (p : List ℕ) (at mid stop : ℕ) : Type 0 where
+  pub first : FirstSentence (restOf p at)
+  pub left : Cut p at mid (first .l) (first .r ++ (first .s ∷ first .rest))
+  pub right : Cut p (mid + 1) stop (first .r) (first .rest)
+
+-- THE LOOP OVER SENTENCES
+pub record Choosing (p : List ℕ) (start : ℕ) (x : List Element) (at : ℕ) : Type 0 where
+  pub upto : at ≤ length p
+  pub whole : Whole (restOf p at)
+  pub body : Body (restOf p at)
+  pub so : apply (sentences (restOf p start)) x ≡ apply (sentences (restOf p at)) x
+
+module _ {p : List ℕ} {start : ℕ} {x : List Element} {at : ℕ} (c : Choosing p start x at) where
+  pub place-in : at < length p
+  place-in = body-here p at (c .body)
+
+  module _ (n : getD p at 0 ≡ 14 → ⊥) where
+    pub first-sentence : FirstSentence (restOf p at)
+    first-sentence = go (c .body) refl
+      where
+        go : {zs : List Element} → Body zs → zs ≡ restOf p at → FirstSentence (restOf p at)
+        go (body-end e es k q) z = absurd (n (sym (first-kind p at place-in (c .whole) e es (sym z ∙ q)) ∙ k))
+        go (body-more {l} {r} {rest} q s g kq ks b e) z = record { l = l; r = r; rest = rest; q = q; s = s; sent = g; kq = kq; ks = ks; more = b; parts = sym z ∙ e }
+
+    pub equals-at : {mid : ℕ} → mid ≡ at + size (before 11 (restOf p at))
+        → Cut p at mid (first-sentence .l) (first-sentence .r ++ (first-sentence .s ∷ first-sentence .rest))
+    unfolding body
+    equals-at e = let f = first-sentence in cut-off p at _ 11 (f .l) (f .q) _ (c .upto) (c .whole) (f .parts) (f .sent .l11) (f .kq) refl e
+
+    pub left-side : {mid : ℕ} → mid ≡ at + size (before 11 (restOf p at)) → LeftSide 0 (elements (take (mid - at) (drop at p)))
+    left-side e = subst (LeftSide 0) (sym (part-is (equals-at e))) (first-sentence .sent .left)
+
+    pub sentence-at : {mid stop : ℕ} → mid ≡ at + size (before 11 (restOf p at)) → stop ≡ mid + 1 + size (before 12 (restOf p (mid + 1))) → SentenceAt p at mid stop
+    unfolding body
+    sentence-at {mid} e u =
+        let f = first-sentence in
+        let l = equals-at e in
+        record { first = f; left = l; right = cut-off p (mid + 1) _ 12 (f .r) (f .s) (f .rest) (l .fits) (l .behind-whole) (l .behind) (f .sent .r12) (f .ks) refl u }
+
+module _ {p f b : List ℕ} {start at : ℕ} (c : Choosing p start (elements f) at) where
+  pub choose-none : getD p at 0 ≡ 14 → {u v : ℕ} → Chosen p f b (apply (sentences (restOf p start)) (elements f)) false u v
+  unfolding sentences pieces apply
+  choose-none k =
+      let i = place-in c in
+      let y = eq-eqb _ 14 (kind-el p at i (c .whole) ∙ k) in
+      none-fits (c .so ∙ ap (λ (z : List Element). apply (sentences z) (elements f)) (rest-is p at i (c .whole)) ∙ rw (before-here 14 _ _ y))
+
+  module _ {mid stop : ℕ} (t : SentenceAt p at mid stop) where
+    pub choose-next : {v : Bool} → v ≡ false → Matched (elements (take (mid - at) (drop at p))) f b v → Choosing p start (elements f) (stop + 1)
+    choose-next n (first-fit env s g) = never (cc)
+    choose-next n (no-fit s) = record {
+      upto = t .right .fits;
+      whole = t .right .behind-whole;
+      body = subst Body (sym (t .right .behind)) (t .first .more);
+      so = c .so ∙ apply-lost (t .first) (elements f) (rw (part-is (t .left)) at s) ∙ ap (λ (k : List Element). apply (sentences k) (elements f)) (sym (t .right .behind));
+    }
+
+    pub choose-this : {v : Bool} → v ≡ true → Matched (elements (take (mid - at) (drop at p))) f b v
+        → Chosen p f b (apply (sentences (restOf p start)) (elements f)) true (mid + 1) stop
+    choose-this n (no-fit s) = never (cc)
+    choose-this n (first-fit env s g) =
+        let l = t .first .l in
+        let r = t .first .r in
+        let r-is = t .right .front in
+        let r-whole = t .right .front-whole in
+        let i : seek l (elements f) free ≡ some env = rw (part-is (t .left)) at s in
+        let itself : (e : Element) → isVariable e ≡ false → given env e ≡ e ∷ [] = λ e y. given-itself l (elements f) env i e (not-var e y) in
+        let has : Has f b env itself r = λ v m y. valued f b env (t .first .sent .left) (rw (part-is (t .left)) at g) v (t .first .sent .vars v m y) y in
+        one-fits (put (given env) r) (given env)
+        (c .so ∙ apply-won (t .first) (elements f) env i)
+        (put-whole f b env itself r r-whole has)
+        (t .right .up)
+        (let z = t .right .fits in omega arith)
+        (subst Whole (sym r-is) r-whole)
+        (subst (Ready f b) (sym r-is) (ready f b env itself r has))
+        (ap (pour f b) r-is ∙ poured f b env itself r has)
+        (ap (put (given env)) (sym r-is))
+        (λ v m y. calm f b env v y (has v (rw r-is at m) y))
+        itself

@@ -1,0 +1,74 @@
+-- Finding a function, and the sentence that fits.
+use mathlib.Core.Path.{_≡_}
+use mathlib.Core.Bool.{Bool, true, false}
+use mathlib.Core.Option.{Option, none, some}
+use mathlib.Core.Logic.{_⊎_}
+use mathlib.Core.List.{List, [], _∷_, _++_}
+use Prim.Native.Nat.{ℕ, _+_, _-_, _≤_, _<_}
+use lib.ListN.{length, getD}
+use Rattle.meaning.specs.Elements.{Element, kind, isVariable, join, among}
+use Rattle.meaning.specs.Matching.{put}
+use Rattle.meaning.specs.Machine.{holds, function, pieces, before}
+use Rattle.meaning.proofs.Cutting.{Whole}
+use Rattle.matching.specs.Binding.{LeftSide}
+use Rattle.building.specs.Build.{sideOf, pour, Ready, Calm}
+use Rattle.choosing.specs.declared.Spot.{Spot}
+use Rattle.choosing.specs.declared.Spot.the-variants.{At, Nowhere}
+
+-- all elements from a place on
+unfoldable pub restOf : List ℕ → ℕ → List Element
+restOf p at = sideOf p at (length p)
+
+-- the sentences behind a header
+unfoldable pub sentences : List Element → List (List Element)
+sentences es = pieces 12 (before 14 es)
+
+-- a sentence of a good program: no = on the left, no end on either side, and each variable of the right side is on the left
+pub record Sentence (l r : List Element) : Type 0 where
+  pub l11 : holds 11 l ≡ false
+  pub l12 : holds 12 l ≡ false
+  pub l14 : holds 14 l ≡ false
+  pub r12 : holds 12 r ≡ false
+  pub r14 : holds 14 r ≡ false
+  pub left : LeftSide 0 l
+  pub vars : (v : Element) → among v r ≡ true → isVariable v ≡ true → among v l ≡ true
+
+-- sentences, each with its = and its end, up to the end of the function
+pub data Body : List Element → Type 0 where
+  body-end : {zs : List Element} (e : Element) (es : List Element) → kind e ≡ 14 → zs ≡ e ∷ es → Body zs
+  body-more : {zs : List Element} {l r rest : List Element} (q s : Element) → Sentence l r → kind q ≡ 11 → kind s ≡ 12 → Body rest → zs ≡ l ++ (q ∷ (r ++ (s ∷ rest))) → Body zs
+
+-- behind each header there is a body
+pub data Bodies : List Element → Type 0 where
+  bodies-none : Bodies []
+  bodies-more : {e : Element} {es : List Element} → (kind e ≡ 13 → Body es) → Bodies es → Bodies (e ∷ es)
+
+pub record Program (p : List ℕ) : Type 0 where
+  pub whole : Whole (restOf p 0)
+  pub bodies : Bodies (restOf p 0)
+
+-- the body of the first function with that name is found
+pub data Looked (p name : List ℕ) : Spot → Type 0 where
+  there : {i : ℕ} → function name (restOf p 0) ≡ some (sentences (restOf p i)) → i ≤ length p → Whole (restOf p i) → Body (restOf p i) → Looked p name (At i)
+  nowhere : function name (restOf p 0) ≡ none → Looked p name Nowhere
+
+-- the right side of the first sentence that fits, from a up to e; val is what each of its elements stands for
+pub data Chosen (p f b : List ℕ) (o : Option (List Element)) : Bool → ℕ → ℕ → Type 0 where
+  none-fits : {a e : ℕ} → o ≡ none → Chosen p f b o false a e
+  one-fits : {a e : ℕ} (r : List Element) (val : Element → List Element) → o ≡ some r → Whole r
+      → a ≤ e → e ≤ length p → Whole (sideOf p a e) → Ready f b (sideOf p a e) → pour f b (sideOf p a e) ≡ join r → r ≡ put val (sideOf p a e)
+      → ((v : Element) → among v (sideOf p a e) ≡ true → isVariable v ≡ true → Calm f b v (val v)) → ((v : Element) → isVariable v ≡ false → val v ≡ v ∷ [])
+      → Chosen p f b o true a e
+
+-- the cache: for each low byte of a name nothing (0), or the high byte and the place of the function's body
+abbrev pub Entry : List ℕ → ℕ → ℕ → ℕ → Type 0
+Entry p lo hi i = (i ≡ 0) ⊎ Looked p (lo ∷ hi ∷ []) (At i)
+
+pub record Cache (p his spots : List ℕ) : Type 0 where
+  pub long-his : length his ≡ 256
+  pub long-spots : length spots ≡ 256
+  pub each : (h : ℕ) → h < 256 → Entry p h (getD his h 0) (getD spots h 0)
+
+pub record Cached (p : List ℕ) (lo hi : ℕ) (r : Spot) (his spots : List ℕ) : Type 0 where
+  pub looked : Looked p (lo ∷ hi ∷ []) r
+  pub cache : Cache p his spots

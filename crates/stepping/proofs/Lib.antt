@@ -1,0 +1,4 @@
+pub mod Argument
+pub mod Put
+pub mod Term
+pub mod Step

@@ -1,0 +1,84 @@
+use Rattle.stepping.proofs.Term.{end-in, no-function}
+use native.Mathlib.Omega.{arith}
+use borrow.Author.Needs.{needs}
+use Rattle.stepping.proofs.step_at.Statement.{statement}
+use Rattle.stepping.proofs.step_at.Tie as tie
+
+add-lo : tie.Need-add-lo
+add-lo c = search needs
+
+slice-read-lo : tie.Need-slice-read-lo
+slice-read-lo c = let p = c .before .before .before .before .before .before .before .before .pre in let i = end-in _ _ _ _ (p .1 .1 .1 .0) (p .1 .1 .1 .1 .0 .term) in omega (arith, p .1 .1 .1 .0 .fits)
+
+add-hi : tie.Need-add-hi
+add-hi c = search needs
+
+slice-read-hi : tie.Need-slice-read-hi
+slice-read-hi c = let p = c .before .before .before .before .before .before .before .before .before .pre in let i = end-in _ _ _ _ (p .1 .1 .1 .0) (p .1 .1 .1 .1 .0 .term) in omega (arith, p .1 .1 .1 .0 .fits)
+
+look-up-requires : tie.Need-look-up-requires
+look-up-requires c κs = search needs
+
+enum-known-body : tie.Need-enum-known-body
+enum-known-body c = search needs
+
+step-in-requires : tie.Need-step-in-requires
+step-in-requires c κs = let p = c .before .before .before .before .before .before .before .before .before .before .before .before .before .before .before .before .before .before .before .before .before .before .before .pre in
+    (p .0, (rw (c .before .before .before .before .before .body .given .1) at (c .before .before .before .before .before .before .before .before .before .before .before .look-up .ensures .looked), (p .1 .1 .1 .0, (p .1 .1 .1 .1 .0, (p .1 .1 .1 .1 .1 .0, (p .1 .1 .1 .1 .1 .1 .0, p .1 .1 .1 .1 .1 .1 .1))))))
+
+enum-told : tie.Need-enum-told
+enum-told c = search needs
+
+same-length : tie.Need-same-length
+same-length c = search needs
+
+same-length-2 : tie.Need-same-length-2
+same-length-2 c = search needs
+
+same-length-3 : tie.Need-same-length-3
+same-length-3 c = search needs
+
+same-length-4 : tie.Need-same-length-4
+same-length-4 c = search needs
+
+same-length-5 : tie.Need-same-length-5
+same-length-5 c = search needs
+
+same-length-6 : tie.Need-same-length-6
+same-length-6 c = search needs
+
+returns : tie.Need-returns
+returns c = search needs
+
+same-length-7 : tie.Need-same-length-7
+same-length-7 c = search needs
+
+same-length-8 : tie.Need-same-length-8
+same-length-8 c = search needs
+
+returns-2 : tie.Need-returns-2
+returns-2 c = let p = c .before .before .before .before .before .before .before .before .before .before .before .before .before .before .before .before .before .before .pre in
+    (no-function _ _ _ _ (p .1 .1 .1 .0) (p .1 .1 .1 .1 .0 .term) _ _ (rw (c .enum-told .given .1) at (c .before .before .before .before .before .before .look-up .ensures .looked)), c .before .before .before .before .before .before .look-up .ensures .cache)
+
+pub step-at-spec : {M : Type 1} → statement M
+step-at-spec =
+    tie.close
+    (tie.spec
+    add-lo
+    slice-read-lo
+    add-hi
+    slice-read-hi
+    look-up-requires
+    enum-known-body
+    step-in-requires
+    enum-told
+    same-length
+    same-length-2
+    same-length-3
+    same-length-4
+    same-length-5
+    same-length-6
+    returns
+    same-length-7
+    same-length-8
+    returns-2)
