@@ -39,7 +39,7 @@ unfolding holds
 behind-at k [] s ys h e = behind-here k s ys e
 behind-at k (x ∷ xs) s ys h e = let m = or-false (isKind k x) (holds k xs) h in behind-on k x (xs ++ (s ∷ ys)) (m .0) ∙ behind-at k xs s ys (m .1) e
 
--- the first sentence of a body: its left side, =, its right side, its end
+-- the first sentence of a body: the left side l, its = q, the right side r, its end s
 pub record FirstSentence (es : List Element) : Type 0 where
   pub l : List Element
   pub r : List Element
@@ -133,7 +133,7 @@ cut-off p at mid k a e b h w parts lacks ke bare em =
       fits = rw n at (middle-within p at (length p) le h a (e ∷ []) b parts w);
     }
 
--- the same elements, of the part that a slice from `at` up to mid has
+-- the slice from `at` up to mid has the elements a
 part-is : {p : List ℕ} {at mid : ℕ} {a b : List Element} → Cut p at mid a b → elements (take (mid - at) (drop at p)) ≡ a
 unfolding sideOf
 part-is {p} {at} {mid} c =

@@ -16,13 +16,9 @@ use Rattle.meaning.proofs.Cutting.{Whole, w-none, w-more, cut-join, join-cut}
 use Rattle.meaning.proofs.Leading.{join-append, size-append}
 use Rattle.meaning.proofs.Programs.{before-here, before-on}
 use Rattle.building.specs.Build.{sideOf}
-use Rattle.building.proofs.Pouring.{side-is, side-within, side-rest, side-end}
+use Rattle.building.proofs.Pouring.{kind-first, side-is, side-within, side-rest, side-end}
 use Rattle.choosing.specs.declared.Spot.the-variants.{At, Nowhere}
 use Rattle.choosing.specs.Choose.{restOf, sentences, Body, Bodies, bodies-none, bodies-more, Program, Looked, there, nowhere}
-
-kind-first : (e : Element) → kind e ≡ getD e 0 0
-kind-first [] = refl
-kind-first (k ∷ b) = refl
 
 pub whole-right : (xs ys zs : List Element) → zs ≡ xs ++ ys → Whole zs → Whole ys
 whole-right [] ys zs e w = rw e at w
@@ -68,7 +64,8 @@ module _ (f : List ℕ) (lo hi : ℕ) (fits : hi ≤ length f) (up : lo ≤ hi) 
   bytes : take hi f ≡ take lo f ++ (join a ++ (join m ++ join b))
   bytes =
       sym (take-append-drop lo (take hi f))
-      ∙ ap₂ {C = List ℕ} (λ (x y : List ℕ). x ++ y) (take-take lo hi f up) (sym (join-side f lo hi) ∙ ap join parts ∙ join-append a (m ++ b) ∙ ap (λ (z : List ℕ). join a ++ z) (join-append m b))
+      ∙ ap₂ {C = List ℕ} (λ (x y : List ℕ). x ++ y) (take-take lo hi f up)
+      (sym (join-side f lo hi) ∙ ap join parts ∙ join-append a (m ++ b) ∙ ap (λ (z : List ℕ). join a ++ z) (join-append m b))
 
   pub behind-whole : Whole b
   behind-whole = whole-right m b (m ++ b) refl (whole-right a (m ++ b) (sideOf f lo hi) parts w)
@@ -142,13 +139,19 @@ before-nil k = refl
 module _ (p : List ℕ) (from k i : ℕ) (s : Seeking p from k i) where
   pub seek-here : i < length p → getD p i 0 ≡ k → i ≡ from + size (before k (restOf p from))
   seek-here h e =
-      let z : size (before k (restOf p i)) ≡ 0 = ap (λ (l : List Element). size (before k l)) (rest-is p i h (s .whole)) ∙ ap size (before-here k _ _ (rw (kind-el p i h (s .whole)) (eq-eqb (getD p i 0) k e))) ∙ size-nil in
+      let z : size (before k (restOf p i)) ≡ 0 =
+      ap (λ (l : List Element). size (before k l)) (rest-is p i h (s .whole))
+      ∙ ap size (before-here k _ _ (rw (kind-el p i h (s .whole)) (eq-eqb (getD p i 0) k e)))
+      ∙ size-nil in
       omega (arith, s .so)
 
   pub seek-next : i < length p → (getD p i 0 ≡ k → ⊥) → (n : ℕ) → n ≡ body (getD p i 0) → Seeking p from k (i + 1 + n)
   seek-next h e n q =
       let el : Element = take (1 + body (getD p i 0)) (drop i p) in
-      let z : size (before k (restOf p i)) ≡ length el + size (before k (restOf p (i + 1 + body (getD p i 0)))) = ap (λ (l : List Element). size (before k l)) (rest-is p i h (s .whole)) ∙ ap size (before-on k _ _ (rw (kind-el p i h (s .whole)) (ne-eqb (getD p i 0) k e))) ∙ size-cons el _ in
+      let z : size (before k (restOf p i)) ≡ length el + size (before k (restOf p (i + 1 + body (getD p i 0)))) =
+      ap (λ (l : List Element). size (before k l)) (rest-is p i h (s .whole))
+      ∙ ap size (before-on k _ _ (rw (kind-el p i h (s .whole)) (ne-eqb (getD p i 0) k e)))
+      ∙ size-cons el _ in
       record {
         upto = rw q (rest-within p i h (s .whole));
         whole = rw q (rest-rest p i h (s .whole));

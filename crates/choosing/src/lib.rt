@@ -1,3 +1,4 @@
+// Finds a function in a good program, and in its body the first sentence that fits.
 ghost use mathlib.Core.Path.{_≡_};
 ghost use mathlib.Core.List.{_∷_, []};
 ghost use Prim.Native.Nat.{_+_, _≤_};
@@ -7,8 +8,6 @@ ghost use Rattle.meaning.specs.Machine.{before, apply};
 ghost use Rattle.meaning.proofs.Cutting.{Whole};
 ghost use Rattle.elements.specs.Reading.{Balanced};
 ghost use Rattle.choosing.specs.Choose.{restOf, sentences, Body, Program, Looked, Cache, Cached, Chosen};
-
-// Finding a function in a good program, and in its body the first sentence that fits.
 
 // Where a function's body begins, if there is such a function.
 pub enum Spot {

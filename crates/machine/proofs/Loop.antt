@@ -1,21 +1,19 @@
 -- The loop: from one step to the next.
-use mathlib.Core.Path.{_≡_, refl, sym, _∙_, ap, ap₂, subst}
-use mathlib.Core.Bool.{Bool, true, false, _&&_, _||_, cond, not}
-use mathlib.Core.Option.{Option, none, some}
+use mathlib.Core.Path.{_≡_, refl, sym, _∙_, ap, subst}
+use mathlib.Core.Bool.{Bool, true, false, _&&_}
+use mathlib.Core.Option.{some}
 use mathlib.Core.List.{List, [], _∷_, _++_, append-assoc, append-nil}
 use Prim.Native.Nat.{ℕ, zero, suc, _+_, _*_, _-_, _≤_, _<_}
 use native.Mathlib.Omega.{arith}
 use native.Mathlib.Numerals.{add-one, sub-one}
 use lib.ListN.{length, getD, take, drop, replicate}
-use lib.Dec.{eqb}
 use lib.Seq.{length-take-le, drop-length}
-use borrow.Author.Tests.{eq-eqb, ne-eqb, eqb-true}
 use Rattle.meaning.specs.Elements.{Element, kind, body, cut, join, size, isKind}
-use Rattle.meaning.proofs.Truth.{Seen, is-true, is-false, see, or-right, or-false}
+use Rattle.meaning.proofs.Truth.{is-true, is-false, see, or-right}
 use Rattle.meaning.proofs.Truth.{never}
-use Rattle.meaning.proofs.Cutting.{Whole, w-none, w-more}
-use Rattle.meaning.proofs.Leading.{holds-append, size-append, before-none, leading-left, leading-here, leading-closed}
-use Rattle.meaning.specs.Machine.{before, behind, holds, innermost, Lead, nothing, lead, leading, Step, idle, stuck, onward, step, Result, result, run, closing, answer}
+use Rattle.meaning.proofs.Cutting.{Whole}
+use Rattle.meaning.proofs.Leading.{holds-append, size-append, leading-left, leading-here, leading-closed}
+use Rattle.meaning.specs.Machine.{before, behind, holds, innermost, Lead, nothing, lead, leading, stuck, onward, step, Result, run, closing, answer}
 use Rattle.meaning.proofs.Balance.{brackets, call-first, fours}
 use Rattle.meaning.proofs.Programs.{Functions}
 use Rattle.meaning.proofs.Words.{StepIs}
@@ -29,6 +27,7 @@ use Rattle.choosing.proofs.Rest.{whole-left, whole-right, whole-one, size-nil, 
 use Rattle.choosing.proofs.Fill.{before-at, behind-at}
 use Rattle.stepping.specs.Stepping.{Term, Under, Stepped, stays, goes}
 use Rattle.machine.specs.Running.{Ended, Between}
+use Rattle.machine.proofs.Answering.{cleared}
 
 -- A BALANCED FIELD WITHOUT > HAS NO <
 no-close : (es : List Element) → brackets [] es ≡ some [] → holds 7 es ≡ false → holds 6 es ≡ false
@@ -222,6 +221,9 @@ module _ (p : List ℕ) (room budget : ℕ) (whole : Result) where
             small = omega arith;
           }
 
+      pub call-in : getD calls′ (d - 1) 0 ≤ used
+      call-in = lead-at .short
+
       pub in-stack : (0 < d) × (3 * d ≤ used)
       in-stack = (lead-at .above, let k = n .scanned .deep in let l = n .yes z .0 in omega arith)
 
@@ -269,13 +271,12 @@ module _ (p : List ℕ) (room budget : ℕ) (whole : Result) where
                   }
 
 -- THE END
-pub closed : (whole : Result) (f s f′ f″ s′ s″ : List ℕ) (code steps used place : ℕ) → Ended whole f′ code steps used place → length f′ ≡ length f → length s′ ≡ length s
+pub closed : (whole : Result) (f s f′ f″ s′ s″ : List ℕ) {code named steps used place : ℕ} → Ended whole f′ code steps used place → length f′ ≡ length f → length s′ ≡ length s
     → f″ ≡ take used f′ ++ replicate (length f′ - used) 0 ++ drop (length f′) f′ → s″ ≡ take 0 s′ ++ replicate (length s′ - 0) 0 ++ drop (length s′) s′
-    → closing f s whole ≡ answer code steps used place f″ s″
+    → named ≡ code → closing f s whole ≡ answer named steps used place f″ s″
 unfolding closing size
-closed whole f s f′ f″ s′ s″ code steps used place e lf ls ef es =
+closed whole f s f′ f″ s′ s″ {code} {named} {steps} {used} {place} e lf ls ef es en =
     let su : length (join (e .es)) ≡ used = ap length (sym (e .bytes)) ∙ length-take-le used f′ (e .fits) in
     let qf : f″ ≡ join (e .es) ++ replicate (length f - length (join (e .es))) 0 = ef ∙ rw (drop-length f′, lf, e .bytes, su) (append-nil _) in
-    let z : length s - 0 ≡ length s = omega arith in
-    let qs : s″ ≡ replicate (length s) 0 = es ∙ rw (drop-length s′, ls, z) (append-nil (replicate (length s) 0)) in
-    ap (closing f s) (e .so) ∙ rw (qf, qs, su)
+    let qs : s″ ≡ replicate (length s) 0 = es ∙ cleared s′ ∙ rw ls in
+    ap (closing f s) (e .so) ∙ rw (qf, qs, su, en)

@@ -1,12 +1,11 @@
 // The machine: any bytes, sizes and budget in, one of eight answers out.
 use checking::Check;
 ghost use mathlib.Core.Path.{_≡_};
-ghost use Prim.Native.Nat.{ℕ, _+_, _-_, _*_, _≤_, _<_};
+ghost use Prim.Native.Nat.{_+_, _-_, _*_, _≤_, _<_};
 ghost use lib.ListN.{length};
 ghost use Rattle.meaning.specs.Machine.{sizes, run as runOf, closing, machine, answer};
-ghost use Rattle.meaning.proofs.Programs.{Functions};
-ghost use Rattle.scanning.specs.State.{fieldOf, Good};
-ghost use Rattle.choosing.specs.Choose.{restOf, Program, Cache};
+ghost use Rattle.scanning.specs.State.{fieldOf};
+ghost use Rattle.choosing.specs.Choose.{restOf, Cache};
 ghost use Rattle.machine.specs.Running.{codeOf, Ended, Checked, Sized};
 
 // Why a run came to its end.
@@ -80,7 +79,17 @@ fn steps_from(
         let from = calls[top] as usize;
         let end = next.at;
         let done = stepping::step_at(
-            program, field, used, from, end, scratch, binds, his, spots, calls, top,
+            program,
+            field,
+            used,
+            from,
+            end,
+            scratch,
+            binds,
+            his,
+            spots,
+            calls,
+            top,
         );
         if done.code != 0 {
             return Ending {
@@ -127,7 +136,15 @@ fn run_good(
     let mut his = [0u8; 256];
     let mut spots = [0u16; 256];
     let end = steps_from(
-        program, field, used, scratch, budget, &mut calls, &mut binds, &mut his, &mut spots,
+        program,
+        field,
+        used,
+        scratch,
+        budget,
+        &mut calls,
+        &mut binds,
+        &mut his,
+        &mut spots,
     );
     moving::clear(field, end.used, field.len());
     moving::clear(scratch, 0, scratch.len());
@@ -142,11 +159,19 @@ fn run_good(
 fn sizes_fit(program: &[u8], field: &[u8], used: usize, scratch: &[u8]) -> bool
     ensures { λ r. ⌜ r ≡ sizes (now (program .entry)) (now (field .entry)) used (now (scratch .entry)) ⌝ }
 {
-    program.len() <= 65536
-        && field.len() <= 65536
-        && scratch.len() <= 65536
-        && used <= field.len()
-        && field.len() <= scratch.len()
+    if 65536 < program.len() {
+        return false;
+    }
+    if 65536 < field.len() {
+        return false;
+    }
+    if 65536 < scratch.len() {
+        return false;
+    }
+    if field.len() < used {
+        return false;
+    }
+    field.len() <= scratch.len()
 }
 
 fn refusal(code: Code, used: usize, place: usize) -> Answer
@@ -180,13 +205,7 @@ fn run_field(
 }
 
 // Expands the field by the program, in at most `budget` steps; the scratch has to be as long as the field buffer.
-pub fn run(
-    program: &[u8],
-    field: &mut [u8],
-    used: usize,
-    scratch: &mut [u8],
-    budget: u32,
-) -> Answer
+pub fn run(program: &[u8], field: &mut [u8], used: usize, scratch: &mut [u8], budget: u32) -> Answer
     ensures { λ r. ⌜ machine (now (program .entry)) (now (field .entry)) used (now (scratch .entry)) budget ≡ answer (codeOf (r .code)) (r .steps) (r .used) (r .place) (now (field .exit)) (now (scratch .exit)) ⌝ }
 {
     if !sizes_fit(program, field, used, scratch) {

@@ -135,7 +135,16 @@ pub fn step_at(
     let hi = field[from + 2];
     match choosing::look_up(program, lo, hi, his, spots) {
         Spot::At(body) => step_in(
-            program, body, field, used, from, end, scratch, binds, calls, top,
+            program,
+            body,
+            field,
+            used,
+            from,
+            end,
+            scratch,
+            binds,
+            calls,
+            top,
         ),
         Spot::Nowhere => Outcome {
             code: 3,

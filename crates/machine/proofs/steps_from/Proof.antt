@@ -1,141 +1,133 @@
+use borrow.Author.Needs.{needs}
+use Rattle.machine.proofs.Loop.{between-start, end-done, end-paused, call-in, in-stack, under-from, stuck-from, next-from}
+use Rattle.machine.specs.Running.{Between}
+use Rattle.choosing.specs.Choose.{restOf, Cache}
+use Rattle.scanning.specs.State.{fieldOf}
+use Rattle.meaning.specs.Machine.{run}
+use borrow.Author.Tests.{not-true, not-false}
+use lib.ListN.{length}
+use Prim.Native.Nat.{_-_}
+use mathlib.Core.Path.{_≡_, refl, _∙_}
+use native.Mathlib.Omega.{arith}
 use Rattle.machine.proofs.steps_from.Statement.{statement}
 use Rattle.machine.proofs.steps_from.Tie as tie
-use Rattle.machine.proofs.steps_from.Reads as reads
-use Rattle.machine.proofs.steps_from.Lts as lts
-use Rattle.scanning.proofs.next_close.Reads as next-close-reads
-use Rattle.stepping.proofs.step_at.Reads as step-at-reads
 
 abbrev Inv-loop : tie.InvT-loop
 Inv-loop program field₀ size scratch₀ budget calls₀ binds₀ his₀ spots₀ used₀ scan₀ depth₀ steps₀ field scratch calls binds his spots used scan depth steps =
-    ?
+    (length field ≡ length field₀) × (length scratch ≡ length scratch₀) × (length calls ≡ length calls₀) × (length binds ≡ length binds₀)
+    × (length his ≡ length his₀) × (length spots ≡ length spots₀) × Cache program his spots
+    × Between program (length field₀) budget (run (restOf program 0) (length field₀) budget 0 (fieldOf field₀ size)) field calls used scan depth steps
 
 abbrev μ-loop : tie.MeasureT-loop
 μ-loop program field₀ size scratch₀ budget calls₀ binds₀ his₀ spots₀ used₀ scan₀ depth₀ steps₀ field scratch calls binds his spots used scan depth steps =
-    ?
+    budget - steps
 
--- src/lib.rt:61:5
 loop-holds : tie.Need-loop-holds Inv-loop μ-loop
-loop-holds c = ?
+loop-holds c = (refl, refl, refl, refl, refl, refl, c .before .before .before .before .before .before .before .pre .1 .1 .1, between-start _ _ _ _ _ _ _ (c .before .before .before .before .before .before .before .pre .0 .field) refl refl)
 
--- src/lib.rt:62:13
 next-close-requires : tie.Need-next-close-requires Inv-loop μ-loop
-next-close-requires c κs = ?
+next-close-requires c κs = let i = c .before .before .loop .inv .7 in
+    let g = i .good .fits in
+    (omega (arith, c .before .before .before .before .before .before .before .before .before .before .pre .0 .field-short), (omega arith, (i .good, i .scanned)))
 
--- src/lib.rt:64:13
 same-length : tie.Need-same-length Inv-loop μ-loop
-same-length c = ?
+same-length c = search needs
 
--- src/lib.rt:64:13
 same-length-2 : tie.Need-same-length-2 Inv-loop μ-loop
-same-length-2 c = ?
+same-length-2 c = search needs
 
--- src/lib.rt:64:13
 same-length-3 : tie.Need-same-length-3 Inv-loop μ-loop
-same-length-3 c = ?
+same-length-3 c = search needs
 
--- src/lib.rt:64:13
 same-length-4 : tie.Need-same-length-4 Inv-loop μ-loop
-same-length-4 c = ?
+same-length-4 c = search needs
 
--- src/lib.rt:64:13
 same-length-5 : tie.Need-same-length-5 Inv-loop μ-loop
-same-length-5 c = ?
+same-length-5 c = search needs
 
--- src/lib.rt:64:13
 same-length-6 : tie.Need-same-length-6 Inv-loop μ-loop
-same-length-6 c = ?
+same-length-6 c = search needs
 
--- src/lib.rt:64:13
 returns : tie.Need-returns Inv-loop μ-loop
-returns c = ?
+returns c = end-done _ _ _ _ _ _ _ _ _ _ (c .before .before .before .before .before .before .before .loop .inv .7) _ _ _ _ (not-true _ (c .if1 .taken)) (c .before .before .before .before .next-close .ensures)
 
--- src/lib.rt:72:13
 same-length-7 : tie.Need-same-length-7 Inv-loop μ-loop
-same-length-7 c = ?
+same-length-7 c = search needs
 
--- src/lib.rt:72:13
 same-length-8 : tie.Need-same-length-8 Inv-loop μ-loop
-same-length-8 c = ?
+same-length-8 c = search needs
 
--- src/lib.rt:72:13
 same-length-9 : tie.Need-same-length-9 Inv-loop μ-loop
-same-length-9 c = ?
+same-length-9 c = search needs
 
--- src/lib.rt:72:13
 same-length-10 : tie.Need-same-length-10 Inv-loop μ-loop
-same-length-10 c = ?
+same-length-10 c = search needs
 
--- src/lib.rt:72:13
 same-length-11 : tie.Need-same-length-11 Inv-loop μ-loop
-same-length-11 c = ?
+same-length-11 c = search needs
 
--- src/lib.rt:72:13
 same-length-12 : tie.Need-same-length-12 Inv-loop μ-loop
-same-length-12 c = ?
+same-length-12 c = search needs
 
--- src/lib.rt:72:13
 returns-2 : tie.Need-returns-2 Inv-loop μ-loop
-returns-2 c = ?
+returns-2 c = end-paused _ _ _ _ _ _ _ _ _ _ (c .before .before .before .before .before .before .before .before .loop .inv .7) _ _ _ _ (not-false _ (c .before .if1 .left)) (c .before .before .before .before .before .next-close .ensures) (c .if2 .taken)
 
--- src/lib.rt:79:19
 sub-top : tie.Need-sub-top Inv-loop μ-loop
-sub-top c = ?
+sub-top c = let k = in-stack _ _ _ _ _ _ _ _ _ _ (c .before .before .before .before .before .before .before .before .before .loop .inv .7) _ _ _ _ (not-false _ (c .before .before .if1 .left)) (c .before .before .before .before .before .before .next-close .ensures) in omega arith
 
--- src/lib.rt:80:20
 mul-from : tie.Need-mul-from Inv-loop μ-loop
-mul-from c = ?
+mul-from c = search needs
 
--- src/lib.rt:80:20
 slice-read-from : tie.Need-slice-read-from Inv-loop μ-loop
-slice-read-from c = ?
+slice-read-from c = let k = in-stack _ _ _ _ _ _ _ _ _ _ (c .before .before .before .before .before .before .before .before .before .before .loop .inv .7) _ _ _ _ (not-false _ (c .before .before .before .if1 .left)) (c .before .before .before .before .before .before .before .next-close .ensures) in let g = c .before .before .before .before .before .before .before .before .before .before .loop .inv .7 .good .fits in omega (arith, c .before .before .before .before .before .before .before .before .before .before .before .before .before .before .before .before .before .before .pre .0 .field-short)
 
--- src/lib.rt:80:20
 cast-from : tie.Need-cast-from Inv-loop μ-loop
-cast-from c = ?
+cast-from c = let k = call-in _ _ _ _ _ _ _ _ _ _ (c .before .before .before .before .before .before .before .before .before .before .loop .inv .7) _ _ _ _ (not-false _ (c .before .before .before .if1 .left)) (c .before .before .before .before .before .before .before .next-close .ensures) in let g = c .before .before .before .before .before .before .before .before .before .before .loop .inv .7 .good .fits in omega (arith, k, c .before .before .before .before .before .before .before .before .before .before .before .before .before .before .before .before .before .before .pre .0 .field-short)
 
--- src/lib.rt:82:13
 step-at-requires : tie.Need-step-at-requires Inv-loop μ-loop
-step-at-requires c κs = ?
+step-at-requires c κs = let p = c .before .before .before .before .before .before .before .before .before .before .before .before .before .before .before .before .before .before .before .before .before .before .before .before .pre in
+    let l = c .before .before .before .before .before .before .before .before .before .before .before .before .before .before .before .before .loop in
+    let i = l .inv .7 in
+    (p .0 .program-short, (p .0 .program, (l .inv .6, (i .good, (under-from _ _ _ _ _ _ _ _ _ _ i _ _ _ _ (not-false _ (c .before .before .before .before .before .before .before .before .before .if1 .left)) (c .before .before .before .before .before .before .before .before .before .before .before .before .before .next-close .ensures) _ refl, ((omega (arith, l .inv .0, p .0 .field-short), omega (arith, c .before .before .before .before .before .before .before .before .before .before .before .before .before .next-close .kept .1 .1 .1 .0, l .inv .2, p .1 .0)), (omega (arith, l .inv .0, l .inv .1, p .0 .scratch-long), l .inv .3 ∙ p .1 .1 .0)))))))
 
--- src/lib.rt:86:13
 same-length-13 : tie.Need-same-length-13 Inv-loop μ-loop
-same-length-13 c = ?
+same-length-13 c = c .before .before .before .before .before .before .before .before .before .before .before .before .before .before .step-at .kept .1 .0 ∙ c .before .before .before .before .before .before .before .before .before .before .before .before .before .before .before .before .before .before .before .before .before .before .before .before .before .before .before .before .before .before .before .loop .inv .0
 
--- src/lib.rt:86:13
 same-length-14 : tie.Need-same-length-14 Inv-loop μ-loop
-same-length-14 c = ?
+same-length-14 c = c .before .before .before .before .before .before .before .before .before .before .before .before .before .before .step-at .kept .1 .1 .1 .1 .1 .0 ∙ c .before .before .before .before .before .before .before .before .before .before .before .before .before .before .before .before .before .before .before .before .before .before .before .before .before .before .before .before .before .before .before .loop .inv .1
 
--- src/lib.rt:86:13
 same-length-15 : tie.Need-same-length-15 Inv-loop μ-loop
-same-length-15 c = ?
+same-length-15 c = c .before .before .before .before .before .before .before .before .before .before .before .before .before .before .step-at .kept .1 .1 .1 .1 .1 .1 .1 .1 .1 .0 ∙ c .before .before .before .before .before .before .before .before .before .before .before .before .before .before .before .before .before .before .before .before .before .before .before .before .before .before .before .before .next-close .kept .1 .1 .1 .0 ∙ c .before .before .before .before .before .before .before .before .before .before .before .before .before .before .before .before .before .before .before .before .before .before .before .before .before .before .before .before .before .before .before .loop .inv .2
 
--- src/lib.rt:86:13
 same-length-16 : tie.Need-same-length-16 Inv-loop μ-loop
-same-length-16 c = ?
+same-length-16 c = c .before .before .before .before .before .before .before .before .before .before .before .before .before .before .step-at .kept .1 .1 .1 .1 .1 .1 .0 ∙ c .before .before .before .before .before .before .before .before .before .before .before .before .before .before .before .before .before .before .before .before .before .before .before .before .before .before .before .before .before .before .before .loop .inv .3
 
--- src/lib.rt:86:13
 same-length-17 : tie.Need-same-length-17 Inv-loop μ-loop
-same-length-17 c = ?
+same-length-17 c = c .before .before .before .before .before .before .before .before .before .before .before .before .before .before .step-at .kept .1 .1 .1 .1 .1 .1 .1 .0 ∙ c .before .before .before .before .before .before .before .before .before .before .before .before .before .before .before .before .before .before .before .before .before .before .before .before .before .before .before .before .before .before .before .loop .inv .4
 
--- src/lib.rt:86:13
 same-length-18 : tie.Need-same-length-18 Inv-loop μ-loop
-same-length-18 c = ?
+same-length-18 c = c .before .before .before .before .before .before .before .before .before .before .before .before .before .before .step-at .kept .1 .1 .1 .1 .1 .1 .1 .1 .0 ∙ c .before .before .before .before .before .before .before .before .before .before .before .before .before .before .before .before .before .before .before .before .before .before .before .before .before .before .before .before .before .before .before .loop .inv .5
 
--- src/lib.rt:86:13
 returns-3 : tie.Need-returns-3 Inv-loop μ-loop
-returns-3 c = ?
+returns-3 c = stuck-from _ _ _ _ _ _ _ _ _ _ (c .before .before .before .before .before .before .before .before .before .before .before .before .before .before .before .before .before .before .before .before .before .before .before .before .before .before .before .before .before .before .before .loop .inv .7) _ _ _ _ (not-false _ (c .before .before .before .before .before .before .before .before .before .before .before .before .before .before .before .before .before .before .before .before .before .before .before .before .if1 .left)) (c .before .before .before .before .before .before .before .before .before .before .before .before .before .before .before .before .before .before .before .before .before .before .before .before .before .before .before .before .next-close .ensures) _ refl (c .before .before .before .before .before .before .before .before .before .before .before .before .before .before .before .before .before .before .before .before .before .before .before .if2 .left) _ _ _ _ _ _ (c .before .before .before .before .before .before .before .before .before .before .before .before .before .before .step-at .ensures .0) (c .if3 .taken)
 
--- src/lib.rt:96:9
 add-steps : tie.Need-add-steps Inv-loop μ-loop
-add-steps c = ?
+add-steps c = let l = c .before .before .before .before .before .before .before .before .before .before .before .before .before .before .before .before .before .before .before .before .before .before .before .before .before .before .before .before .before .before .before .loop .inv .7 .left in let m = c .before .before .before .before .before .before .before .before .before .before .before .before .before .before .before .before .before .before .before .before .before .before .before .if2 .left in omega (arith, c .before .before .before .before .before .before .before .before .before .before .before .before .before .before .before .before .before .before .before .before .before .before .before .before .before .before .before .before .before .before .before .before .before .before .before .before .before .before .before .fits)
 
--- src/lib.rt:61:5
 loop-less : tie.Need-loop-less Inv-loop μ-loop
-loop-less c = ?
+loop-less c = let l = c .before .before .before .before .before .before .before .before .before .before .before .before .before .before .before .before .before .before .before .before .before .before .before .before .before .before .before .before .before .before .before .loop .inv .7 .left in let m = c .before .before .before .before .before .before .before .before .before .before .before .before .before .before .before .before .before .before .before .before .before .before .before .if2 .left in omega arith
 
--- src/lib.rt:61:5
 loop-again : tie.Need-loop-again Inv-loop μ-loop
-loop-again c = ?
+loop-again c = let l = c .before .before .before .before .before .before .before .before .before .before .before .before .before .before .before .before .before .before .before .before .before .before .before .before .before .before .before .before .before .before .before .loop in let s = c .before .before .before .before .before .before .before .before .before .before .before .before .before .before .step-at in (
+  s .kept .1 .0 ∙ l .inv .0,
+  s .kept .1 .1 .1 .1 .1 .0 ∙ l .inv .1,
+  s .kept .1 .1 .1 .1 .1 .1 .1 .1 .1 .0 ∙ c .before .before .before .before .before .before .before .before .before .before .before .before .before .before .before .before .before .before .before .before .before .before .before .before .before .before .before .before .next-close .kept .1 .1 .1 .0 ∙ l .inv .2,
+  s .kept .1 .1 .1 .1 .1 .1 .0 ∙ l .inv .3,
+  s .kept .1 .1 .1 .1 .1 .1 .1 .0 ∙ l .inv .4,
+  s .kept .1 .1 .1 .1 .1 .1 .1 .1 .0 ∙ l .inv .5,
+  s .ensures .1,
+  next-from _ _ _ _ _ _ _ _ _ _ (l .inv .7) _ _ _ _ (not-false _ (c .before .before .before .before .before .before .before .before .before .before .before .before .before .before .before .before .before .before .before .before .before .before .before .before .if1 .left)) (c .before .before .before .before .before .before .before .before .before .before .before .before .before .before .before .before .before .before .before .before .before .before .before .before .before .before .before .before .next-close .ensures) _ refl (c .before .before .before .before .before .before .before .before .before .before .before .before .before .before .before .before .before .before .before .before .before .before .before .if2 .left) _ _ _ _ _ _ (s .ensures .0) (c .before .before .before .before .before .before .before .before .before .before .before .before .before .before .before .before .before .before .before .before .before .before .before .before .before .before .before .before .before .before .before .before .before .before .before .before .before .before .before .pre .0 .functions) (c .if3 .left),
+)
 
 pub steps-from-spec : {M : Type 1} → statement M
 steps-from-spec =

@@ -1,0 +1,88 @@
+use Rattle.machine.proofs.Answering.{check-good, check-bad, never-short, used-fits, field-check, scratch-zero, checked, good-run, bad-field}
+use Rattle.meaning.specs.Goodness.{badField}
+use mathlib.Core.Path.{_∙_}
+use native.Mathlib.Omega.{arith}
+use borrow.Author.Needs.{needs}
+use Rattle.machine.proofs.run_field.Statement.{statement}
+use Rattle.machine.proofs.run_field.Tie as tie
+
+sub-check-field : tie.Need-sub-check-field
+sub-check-field c = search needs
+
+part-check-field-start : tie.Need-part-check-field-start
+part-check-field-start c = search needs
+
+part-check-field-end : tie.Need-part-check-field-end
+part-check-field-end c = let u = used-fits _ _ _ _ (c .before .before .before .before .pre) in omega arith
+
+check-field-requires : tie.Need-check-field-requires
+check-field-requires c κs = search needs
+
+enum-told : tie.Need-enum-told
+enum-told c = search needs
+
+run-good-requires : tie.Need-run-good-requires
+run-good-requires c κs = checked _ _ _ _ (c .before .before .before .before .before .before .before .before .before .before .before .before .before .pre) _ (search needs) (check-good (badField _) (c .before .before .before .before .before .before .check-field .ensures .0 ∙ field-check _ _ _ _ (c .before .before .before .before .before .before .before .before .before .before .before .before .before .pre)) (c .before .before .enum-told .given .1))
+
+enum-known-place : tie.Need-enum-known-place
+enum-known-place c = search needs
+
+refusal-requires : tie.Need-refusal-requires
+refusal-requires c κs = search needs
+
+enum-told-2 : tie.Need-enum-told-2
+enum-told-2 c = search needs
+
+refusal-requires-2 : tie.Need-refusal-requires-2
+refusal-requires-2 c κs = search needs
+
+same-length : tie.Need-same-length
+same-length c = search needs
+
+same-length-2 : tie.Need-same-length-2
+same-length-2 c = search needs
+
+returns : tie.Need-returns
+returns c = good-run _ _ _ _ (c .before .before .before .before .before .before .before .before .before .before .before .before .before .before .before .before .before .before .pre) _ (search needs) (check-good (badField _) (c .before .before .before .before .before .before .before .before .before .before .before .check-field .ensures .0 ∙ field-check _ _ _ _ (c .before .before .before .before .before .before .before .before .before .before .before .before .before .before .before .before .before .before .pre)) (c .before .before .before .before .before .before .before .enum-told .given .1)) _ (c .before .before .before .before .run-good .ensures)
+
+same-length-3 : tie.Need-same-length-3
+same-length-3 c = search needs
+
+same-length-4 : tie.Need-same-length-4
+same-length-4 c = search needs
+
+returns-2 : tie.Need-returns-2
+returns-2 c = bad-field _ _ _ _ (c .before .before .before .before .before .before .before .before .before .before .before .before .before .pre) _ (check-bad (badField _) (c .before .before .before .before .before .before .check-field .ensures .0 ∙ field-check _ _ _ _ (c .before .before .before .before .before .before .before .before .before .before .before .before .before .pre)) (c .before .before .place .given .1)) _ (c .before .before .before .before .before .before .check-field .ensures .1 ∙ scratch-zero _ _ _ _ (c .before .before .before .before .before .before .before .before .before .before .before .before .before .pre)) (c .refusal .ensures)
+
+same-length-5 : tie.Need-same-length-5
+same-length-5 c = search needs
+
+same-length-6 : tie.Need-same-length-6
+same-length-6 c = search needs
+
+returns-3 : tie.Need-returns-3
+returns-3 c = absurd (never-short (badField _) (c .before .before .before .before .before .check-field .ensures .0 ∙ field-check _ _ _ _ (c .before .before .before .before .before .before .before .before .before .before .before .before .pre)) (c .before .enum-told2 .given .1))
+
+pub run-field-spec : {M : Type 1} → statement M
+run-field-spec =
+    tie.close
+    (tie.spec
+    sub-check-field
+    part-check-field-start
+    part-check-field-end
+    check-field-requires
+    enum-told
+    run-good-requires
+    enum-known-place
+    refusal-requires
+    enum-told-2
+    refusal-requires-2
+    same-length
+    same-length-2
+    returns
+    same-length-3
+    same-length-4
+    returns-2
+    same-length-5
+    same-length-6
+    returns-3)
