@@ -1,3 +1,4 @@
 pub mod Sizes
 pub mod Answering
 pub mod Loop
+pub mod Only

@@ -106,6 +106,22 @@ fn steps_from(
     }
 }
 
+// The paper's number of a code.
+pub fn number(code: Code) -> u8
+    ensures { λ r. ⌜ r ≡ codeOf code ⌝ }
+{
+    match code {
+        Code::Done => 0,
+        Code::Paused => 1,
+        Code::NoMatch => 2,
+        Code::NoFunction => 3,
+        Code::NoRoom => 4,
+        Code::BadSizes => 5,
+        Code::BadProgram => 6,
+        Code::BadField => 7,
+    }
+}
+
 // The name of a code that a run ends with.
 fn named(code: u8) -> Code
     ensures { λ r. ⌜ (code ≤ 4 → codeOf r ≡ code) ⌝ }

@@ -1,0 +1,94 @@
+use Rattle.expand.proofs.hex_line.Statement.{statement}
+use Rattle.expand.proofs.hex_line.Tie as tie
+use Rattle.expand.proofs.hex_line.Reads as reads
+use Rattle.expand.proofs.hex_line.Lts as lts
+use Rattle.expand.proofs.hex_end.Reads as hex-end-reads
+use Rattle.expand.proofs.hex_part.Reads as hex-part-reads
+
+abbrev Inv-loop : tie.InvT-loop
+Inv-loop s at₀ at = ?
+
+abbrev μ-loop : tie.MeasureT-loop
+μ-loop s at₀ at = ?
+
+-- src/main.rt:87:5
+loop-holds : tie.Need-loop-holds Inv-loop μ-loop
+loop-holds c = ?
+
+-- src/main.rt:87:16
+sub-loop : tie.Need-sub-loop Inv-loop μ-loop
+sub-loop c = ?
+
+-- src/main.rt:88:25
+add-hex-part : tie.Need-add-hex-part Inv-loop μ-loop
+add-hex-part c = ?
+
+-- src/main.rt:88:18
+sub-hex-part : tie.Need-sub-hex-part Inv-loop μ-loop
+sub-hex-part c = ?
+
+-- src/main.rt:88:18
+part-hex-part-start : tie.Need-part-hex-part-start Inv-loop μ-loop
+part-hex-part-start c = ?
+
+-- src/main.rt:88:18
+part-hex-part-end : tie.Need-part-hex-part-end Inv-loop μ-loop
+part-hex-part-end c = ?
+
+-- src/main.rt:88:9
+hex-part-requires : tie.Need-hex-part-requires Inv-loop μ-loop
+hex-part-requires c κs = ?
+
+-- src/main.rt:89:9
+add-at : tie.Need-add-at Inv-loop μ-loop
+add-at c = ?
+
+-- src/main.rt:87:5
+loop-less : tie.Need-loop-less Inv-loop μ-loop
+loop-less c = ?
+
+-- src/main.rt:87:5
+loop-again : tie.Need-loop-again Inv-loop μ-loop
+loop-again c = ?
+
+-- src/main.rt:91:13
+sub-hex-end : tie.Need-sub-hex-end Inv-loop μ-loop
+sub-hex-end c = ?
+
+-- src/main.rt:91:13
+part-hex-end-start : tie.Need-part-hex-end-start Inv-loop μ-loop
+part-hex-end-start c = ?
+
+-- src/main.rt:91:13
+part-hex-end-end : tie.Need-part-hex-end-end Inv-loop μ-loop
+part-hex-end-end c = ?
+
+-- src/main.rt:91:5
+hex-end-requires : tie.Need-hex-end-requires Inv-loop μ-loop
+hex-end-requires c κs = ?
+
+-- src/main.rt:85:1
+returns : tie.Need-returns Inv-loop μ-loop
+returns c = ?
+
+pub hex-line-spec : {M : Type 1} → statement M
+hex-line-spec =
+    tie.close
+    (tie.spec
+    Inv-loop
+    μ-loop
+    loop-holds
+    sub-loop
+    add-hex-part
+    sub-hex-part
+    part-hex-part-start
+    part-hex-part-end
+    hex-part-requires
+    add-at
+    loop-less
+    loop-again
+    sub-hex-end
+    part-hex-end-start
+    part-hex-end-end
+    hex-end-requires
+    returns)
