@@ -1,7 +1,8 @@
 // Expands start.bin by rules.bin, and prints the answer and the field.
 use libc::STDOUT_FILENO;
-ghost use Prim.Native.Nat.{_*_, _≤_, _<_};
+ghost use Prim.Native.Nat.{_+_, _*_, _≤_, _<_};
 ghost use lib.ListN.{length};
+ghost use Rattle.expand.specs.Loading.{Within};
 
 // What a file holds: so many bytes, or more than a buffer takes.
 enum Loaded {
@@ -10,7 +11,9 @@ enum Loaded {
 }
 
 // Reads a file to its end; one that cannot be opened or read counts as empty.
-fn load(path: &[u8], buf: &mut [u8]) -> Loaded {
+fn load(path: &[u8], buf: &mut [u8]) -> Loaded
+    ensures { λ r. ⌜ Within r (length (now (buf .exit))) ⌝ }
+{
     let fd = os::open_read(path);
     if fd < 0 {
         return Loaded::Bytes(0);
@@ -43,15 +46,21 @@ fn hex_digit(d: u8) -> u8
     if d < 10 { b'0' + d } else { b'A' - 10 + d }
 }
 
+fn put_byte(out: &mut [u8], at: usize, b: u8)
+    requires { ⌜ at + 3 ≤ length (now out) ⌝ }
+{
+    out[at] = hex_digit(b / 16);
+    out[at + 1] = hex_digit(b % 16);
+    out[at + 2] = b' ';
+}
+
 // Bytes in hex, a space behind each.
 fn spell(s: &[u8], out: &mut [u8])
     requires { ⌜ 3 * length (now s) ≤ length (now out) ⌝ }
 {
     let mut i = 0;
     while i < s.len() {
-        out[3 * i] = hex_digit(s[i] / 16);
-        out[3 * i + 1] = hex_digit(s[i] % 16);
-        out[3 * i + 2] = b' ';
+        put_byte(out, 3 * i, s[i]);
         i += 1;
     }
 }
@@ -77,8 +86,9 @@ fn hex_end(s: &[u8])
         io::write_all(STDOUT_FILENO, b"\n");
         return;
     }
-    out[n - 1] = b'\n';
-    io::write_all(STDOUT_FILENO, &out[0..n]);
+    let last = n - 1;
+    io::write_all(STDOUT_FILENO, &out[0..last]);
+    io::write_all(STDOUT_FILENO, b"\n");
 }
 
 // Bytes in hex with single spaces, in parts so that a long line is not written byte by byte.

@@ -1,3 +1,8 @@
+use borrow.Author.Needs.{needs}
+use lib.ListN.{length}
+use Rattle.expand.proofs.Parts.{part-short, part-of-64}
+use Prim.Native.Nat.{_-_, _≤_}
+use native.Mathlib.Omega.{arith}
 use Rattle.expand.proofs.hex_line.Statement.{statement}
 use Rattle.expand.proofs.hex_line.Tie as tie
 use Rattle.expand.proofs.hex_line.Reads as reads
@@ -6,70 +11,70 @@ use Rattle.expand.proofs.hex_end.Reads as hex-end-reads
 use Rattle.expand.proofs.hex_part.Reads as hex-part-reads
 
 abbrev Inv-loop : tie.InvT-loop
-Inv-loop s at₀ at = ?
+Inv-loop s at₀ at = at ≤ length s
 
 abbrev μ-loop : tie.MeasureT-loop
-μ-loop s at₀ at = ?
+μ-loop s at₀ at = length s - at
 
--- src/main.rt:87:5
+-- src/main.rt:94:5
 loop-holds : tie.Need-loop-holds Inv-loop μ-loop
-loop-holds c = ?
+loop-holds c = omega arith
 
--- src/main.rt:87:16
+-- src/main.rt:94:16
 sub-loop : tie.Need-sub-loop Inv-loop μ-loop
-sub-loop c = ?
+sub-loop c = c .loop .inv
 
--- src/main.rt:88:25
+-- src/main.rt:95:25
 add-hex-part : tie.Need-add-hex-part Inv-loop μ-loop
-add-hex-part c = ?
+add-hex-part c = omega (arith, c .loop-test .taken)
 
--- src/main.rt:88:18
+-- src/main.rt:95:18
 sub-hex-part : tie.Need-sub-hex-part Inv-loop μ-loop
-sub-hex-part c = ?
+sub-hex-part c = search needs
 
--- src/main.rt:88:18
+-- src/main.rt:95:18
 part-hex-part-start : tie.Need-part-hex-part-start Inv-loop μ-loop
-part-hex-part-start c = ?
+part-hex-part-start c = search needs
 
--- src/main.rt:88:18
+-- src/main.rt:95:18
 part-hex-part-end : tie.Need-part-hex-part-end Inv-loop μ-loop
-part-hex-part-end c = ?
+part-hex-part-end c = omega (arith, c .loop-test .taken)
 
--- src/main.rt:88:9
+-- src/main.rt:95:9
 hex-part-requires : tie.Need-hex-part-requires Inv-loop μ-loop
-hex-part-requires c κs = ?
+hex-part-requires c κs = part-of-64 (c .before .before .loop .at) _
 
--- src/main.rt:89:9
+-- src/main.rt:96:9
 add-at : tie.Need-add-at Inv-loop μ-loop
-add-at c = ?
+add-at c = omega (arith, c .before .before .loop-test .taken)
 
--- src/main.rt:87:5
+-- src/main.rt:94:5
 loop-less : tie.Need-loop-less Inv-loop μ-loop
-loop-less c = ?
+loop-less c = omega (arith, c .before .before .loop-test .taken)
 
--- src/main.rt:87:5
+-- src/main.rt:94:5
 loop-again : tie.Need-loop-again Inv-loop μ-loop
-loop-again c = ?
+loop-again c = omega (arith, c .before .before .loop-test .taken)
 
--- src/main.rt:91:13
+-- src/main.rt:98:13
 sub-hex-end : tie.Need-sub-hex-end Inv-loop μ-loop
-sub-hex-end c = ?
+sub-hex-end c = c .before .loop .inv
 
--- src/main.rt:91:13
+-- src/main.rt:98:13
 part-hex-end-start : tie.Need-part-hex-end-start Inv-loop μ-loop
-part-hex-end-start c = ?
+part-hex-end-start c = search needs
 
--- src/main.rt:91:13
+-- src/main.rt:98:13
 part-hex-end-end : tie.Need-part-hex-end-end Inv-loop μ-loop
-part-hex-end-end c = ?
+part-hex-end-end c = search needs
 
--- src/main.rt:91:5
+-- src/main.rt:98:5
 hex-end-requires : tie.Need-hex-end-requires Inv-loop μ-loop
-hex-end-requires c κs = ?
+hex-end-requires c κs = part-short _ _ (c .before .loop-test .left)
 
--- src/main.rt:85:1
+-- src/main.rt:92:1
 returns : tie.Need-returns Inv-loop μ-loop
-returns c = ?
+returns c = search needs
 
 pub hex-line-spec : {M : Type 1} → statement M
 hex-line-spec =
