@@ -14,7 +14,8 @@ use Rattle.meaning.specs.Elements.{Element, kind, body, cut, join, size, isVari
 use Rattle.meaning.proofs.Truth.{and-false, and-left, and-right, is-true, is-false, see}
 use Rattle.meaning.proofs.Truth.{never}
 use Rattle.meaning.proofs.Cutting.{Whole, w-none, w-more, cut-at}
-use Rattle.building.specs.Build.{sideOf, slotOf, valueOf, piece, pour, Held, Ready, ready-none, ready-more, Known, Put, Poured}
+use Rattle.kinds.specs.Slots.{slotOf, valueOf}
+use Rattle.building.specs.Build.{sideOf, piece, pour, Held, Ready, ready-none, ready-more, Known, Put, Poured}
 
 pub kind-first : (e : Element) → kind e ≡ getD e 0 0
 kind-first [] = refl

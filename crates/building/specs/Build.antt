@@ -6,17 +6,11 @@ use Prim.Native.Nat.{ℕ, _+_, _*_, _-_, _≤_, _<_}
 use lib.ListN.{length, getD, take, drop}
 use Rattle.meaning.specs.Elements.{Element, kind, cut, isVariable, size}
 use Rattle.meaning.specs.Machine.{holds}
+use Rattle.kinds.specs.Slots.{slotOf, valueOf}
 
 -- the elements of the bytes from a up to e
 unfoldable pub sideOf : List ℕ → ℕ → ℕ → List Element
 sideOf p a e = cut 0 (drop a (take e p))
-
--- a variable's place in the table: its value is the field's part from b[s] up to b[s + 48]
-abbrev pub slotOf : ℕ → ℕ → ℕ
-slotOf k n = (k - 8) * 16 + n
-
-unfoldable pub valueOf : List ℕ → List ℕ → ℕ → List ℕ
-valueOf f b s = take (getD b (s + 48) 0 - getD b s 0) (drop (getD b s 0) f)
 
 -- what an element gives
 unfoldable pub piece : List ℕ → List ℕ → Element → List ℕ

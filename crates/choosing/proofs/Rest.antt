@@ -16,7 +16,7 @@ use Rattle.meaning.proofs.Cutting.{Whole, w-none, w-more, cut-join, join-cut}
 use Rattle.meaning.proofs.Leading.{join-append, size-append}
 use Rattle.meaning.proofs.Programs.{before-here, before-on}
 use Rattle.building.specs.Build.{sideOf}
-use Rattle.building.proofs.Pouring.{kind-first, side-is, side-within, side-rest, side-end}
+use Rattle.building.proofs.Pouring.{kind-first, side-is, side-within, side-rest, side-end, size-nil, size-cons}
 use Rattle.choosing.specs.declared.Spot.the-variants.{At, Nowhere}
 use Rattle.choosing.specs.Choose.{restOf, sentences, Body, Bodies, bodies-none, bodies-more, Program, Looked, there, nowhere}
 
@@ -39,14 +39,6 @@ whole-one e es zs q (w-more {k} {b} h w) = let i : k ∷ b ≡ e = cc in rw (←
 pub join-whole : (es : List Element) → Whole es → cut 0 (join es) ≡ es
 unfolding cut
 join-whole es w = ap (cut 0) (sym (append-nil (join es))) ∙ cut-join w [] ∙ append-nil es
-
-pub size-nil : size [] ≡ 0
-unfolding size join
-size-nil = refl
-
-pub size-cons : (e : Element) (es : List Element) → size (e ∷ es) ≡ length e + size es
-unfolding size join
-size-cons e es = length-append e (join es)
 
 pub join-side : (f : List ℕ) (lo hi : ℕ) → join (sideOf f lo hi) ≡ drop lo (take hi f)
 unfolding sideOf

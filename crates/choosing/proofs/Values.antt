@@ -15,9 +15,10 @@ use Rattle.meaning.specs.Machine.{holds}
 use Rattle.meaning.proofs.Truth.{never, and-left, and-right, T-true, is-true, is-false, see, or-right, same-eq, same-refl}
 use Rattle.meaning.proofs.Cutting.{Whole, w-none, w-more, join-cut}
 use Rattle.meaning.proofs.Leading.{holds-append, join-append}
-use Rattle.matching.specs.Binding.{LeftSide, l-end, l-symbol, l-open, l-close, l-variable, Variable, Bound, valueOf as matchedValue}
+use Rattle.matching.specs.Binding.{LeftSide, l-end, l-symbol, l-open, l-close, l-variable, Variable, Bound}
 use Rattle.matching.proofs.Sides.{proper-whole}
-use Rattle.building.specs.Build.{slotOf, valueOf, piece, pour, Held, Ready, ready-none, ready-more, spanOf, Calm}
+use Rattle.kinds.specs.Slots.{slotOf, valueOf}
+use Rattle.building.specs.Build.{piece, pour, Held, Ready, ready-none, ready-more, spanOf, Calm}
 
 symbol-low : (e : Element) → T (isSymbol e) → kind e ≤ 3
 unfolding isSymbol
@@ -57,7 +58,7 @@ pub record Valued (f b : List ℕ) (env : Env) (v : Element) : Type 0 where
 
 pub valued : (f b : List ℕ) (env : Env) {l : List Element} → LeftSide 0 l → ((k n : ℕ) → Variable k n → among (k ∷ n ∷ []) l ≡ true → Bound f b env k n)
     → (v : Element) → among v l ≡ true → isVariable v ≡ true → Valued f b env v
-unfolding valueOf matchedValue
+unfolding valueOf
 valued f b env {l} s g v m y = go (variable-of s v m y)
   where
     go : (k : ℕ) × (n : ℕ) × Variable k n × (v ≡ k ∷ n ∷ []) → Valued f b env v

@@ -23,7 +23,8 @@ use Rattle.scanning.specs.State.{stack}
 use Rattle.scanning.specs.State.{fieldOf, Good, Opens, none-open, one-open, Scanned, Found}
 use Rattle.scanning.proofs.Scan.{join-field, size-field, Met, met}
 use Rattle.choosing.specs.Choose.{restOf}
-use Rattle.choosing.proofs.Rest.{whole-left, whole-right, whole-one, size-nil, size-cons, join-whole}
+use Rattle.building.proofs.Pouring.{size-nil, size-cons}
+use Rattle.choosing.proofs.Rest.{whole-left, whole-right, whole-one, join-whole}
 use Rattle.choosing.proofs.Fill.{before-at, behind-at}
 use Rattle.stepping.specs.Stepping.{Term, Under, Stepped, stays, goes}
 use Rattle.machine.specs.Running.{Ended, Between}

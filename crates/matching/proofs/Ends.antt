@@ -17,12 +17,12 @@ use Rattle.meaning.proofs.Cutting.{cut-join, join-cut}
 use Rattle.meaning.proofs.Leading.{join-append}
 use Rattle.meaning.proofs.Searching.{exact-here, exact-each, fresh-each, second-term}
 use Rattle.meaning.proofs.Trying.{no-way, symbol-way}
-use Rattle.kinds.specs.Slots.{slotOf, within}
+use Rattle.kinds.specs.Slots.{slotOf, within, valueOf}
 use Rattle.elements.specs.declared.Found.{Found}
 use Rattle.elements.specs.declared.Found.the-variants.{At, Nothing}
 use Rattle.elements.specs.Bytes.{Told}
 use Rattle.elements.specs.Reading.{Splits, Proper, none, more, Level, SymbolEnd, symbol-at, no-symbol, TermEnd, term-at, no-term}
-use Rattle.matching.specs.Binding.{valueOf, envOf, Variable, ValueEnd, stands-at, differs, FreshE, of-variable, of-fixed, Single, Ways, one-way, no-ways, OnlyEnd}
+use Rattle.matching.specs.Binding.{envOf, Variable, ValueEnd, stands-at, differs, FreshE, of-variable, of-fixed, Single, Ways, one-way, no-ways, OnlyEnd}
 use Rattle.matching.proofs.Sides.{proper-whole, bare, symbol-whole, part-elements, l-head, h-symbol, h-open, h-close, h-variable}
 use Rattle.matching.proofs.Slots.{env-settled, env-open, env-fixed, slot-small}
 

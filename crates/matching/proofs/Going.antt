@@ -14,7 +14,7 @@ use Rattle.meaning.specs.Matching.{Terms, stop, symbol, bracket, Role, sVar, tV
 use Rattle.meaning.proofs.Truth.{never}
 use Rattle.meaning.proofs.Searching.{Good, known-each, Each, one-more}
 use Rattle.meaning.proofs.Trying.{first-none, first-one}
-use Rattle.kinds.specs.Slots.{slotOf, within, joined}
+use Rattle.kinds.specs.Slots.{slotOf, within, joined, valueOf}
 use Rattle.elements.specs.declared.Element.{Element}
 use Rattle.elements.specs.declared.Element.the-variants.{Character, Name, Macrodigit, Open, Close, Call, Return, SVariable, TVariable, EVariable, Equals, SentenceEnd, Header, FunctionEnd, ProgramEnd}
 use Rattle.elements.specs.declared.Cursor.{Cursor}
@@ -24,7 +24,7 @@ use Rattle.elements.specs.Bytes.{kindOf, numberOf, digits, bytesOf}
 use Rattle.elements.specs.Reading.{Splits, Whole1, ReadAt, over, bad, got, Proper, none, more, Balanced, symbols, opening, closing}
 use Rattle.elements.proofs.Places.{symbol-kind, none-left as nothing-left, ends-here, here as here-element, cut-here, head, head-symbol, head-open, head-close}
 use Rattle.elements.proofs.Levels.{behind-terms}
-use Rattle.matching.specs.Binding.{slotFor, valueOf, envOf, Variable, LeftSide, Table, Ready, Kept, Outcome, lost, won, FreshE, Slotted, of-variable, of-fixed, Single, Ways, one-way, no-ways, OnlyEnd, noting, Settled, as-before, noted}
+use Rattle.matching.specs.Binding.{slotFor, envOf, Variable, LeftSide, Table, Ready, Kept, Outcome, lost, won, FreshE, Slotted, of-variable, of-fixed, Single, Ways, one-way, no-ways, OnlyEnd, noting, Settled, as-before, noted}
 use Rattle.matching.proofs.Slots.{slot-small, env-open, env-settled, bind-again, bind-noted, table-noted, table-sure, noting-kept, kept-self, kept-more, within-more}
 use Rattle.matching.proofs.Sides.{bare, symbol-whole, part-elements, l-head, h-symbol, h-open, h-close, h-variable}
 use Rattle.matching.proofs.Ends.{role-fixed, s-role, t-role, e-role, roles}

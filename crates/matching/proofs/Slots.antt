@@ -14,9 +14,9 @@ use Rattle.meaning.specs.Matching.{role, Stands, Env, free, bind}
 use Rattle.meaning.proofs.Truth.{never, is-true, is-false, see, and-left, and-right, and-false, same-eq, same-refl}
 use Rattle.meaning.proofs.Searching.{Sure}
 use Rattle.elements.specs.Reading.{Proper}
-use Rattle.kinds.specs.Slots.{slotOf, within, joined}
+use Rattle.kinds.specs.Slots.{slotOf, within, joined, valueOf}
 use Rattle.kinds.proofs.Sets.{none-within, within-same, within-other}
-use Rattle.matching.specs.Binding.{valueOf, pick, envOf, Variable, Held, Table, Kept, noting}
+use Rattle.matching.specs.Binding.{pick, envOf, Variable, Held, Table, Kept, noting}
 
 pub slot-small : {k n : ℕ} → Variable k n → slotOf k n < 48
 slot-small v = let a = v .low in let b = v .high in let c = v .small in omega arith

@@ -8,7 +8,7 @@ use lib.ListN.{length, getD, take, drop, set}
 use lib.Dec.{T, leb}
 use Rattle.meaning.specs.Elements.{kind, body, elements, among, isSymbol, isVariable}
 use Rattle.meaning.specs.Matching.{role, Stands, Way, way, Env, free, seek, known}
-use Rattle.kinds.specs.Slots.{slotOf, within, joined}
+use Rattle.kinds.specs.Slots.{slotOf, within, joined, valueOf}
 use Rattle.elements.specs.declared.Element.{Element}
 use Rattle.elements.specs.declared.Element.the-variants.{Character, Name, Macrodigit, Open, Close, Call, Return, SVariable, TVariable, EVariable, Equals, SentenceEnd, Header, FunctionEnd, ProgramEnd}
 use Rattle.elements.specs.declared.Found.{Found}
@@ -31,10 +31,6 @@ slotFor SentenceEnd = 48
 slotFor (Header n) = 48
 slotFor FunctionEnd = 48
 slotFor ProgramEnd = 48
-
--- the bytes of the value in a slot: a part of the argument
-unfoldable pub valueOf : List ℕ → List ℕ → ℕ → List ℕ
-valueOf arg b slot = take (getD b (slot + 48) 0 - getD b slot 0) (drop (getD b slot 0) arg)
 
 abbrev pub pick : Bool → List (List ℕ) → Option (List (List ℕ))
 pick true x = some x

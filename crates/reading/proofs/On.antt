@@ -17,7 +17,8 @@ use Rattle.meaning.specs.Machine.{holds}
 use Rattle.meaning.proofs.Leading.{holds-append, size-append}
 use Rattle.scanning.specs.State.{stack}
 use Rattle.scanning.proofs.Scan.{stack-push}
-use Rattle.building.specs.Build.{sideOf, slotOf, Known, spanOf, Calm}
+use Rattle.kinds.specs.Slots.{slotOf}
+use Rattle.building.specs.Build.{sideOf, Known, spanOf, Calm}
 use Rattle.building.proofs.Pouring.{kind-first, size-nil, size-cons, side-is, side-within, side-rest, kind-is, var-range}
 use Rattle.scanning.specs.State.{fieldOf, Opens, none-open, one-open, Scanned}
 use Rattle.scanning.proofs.Scan.{size-field}

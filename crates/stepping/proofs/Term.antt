@@ -21,7 +21,8 @@ use Rattle.scanning.proofs.Scan.{join-field, size-field}
 use Rattle.choosing.specs.Choose.{restOf, Looked, there, nowhere}
 use Rattle.choosing.specs.declared.Spot.{Spot}
 use Rattle.choosing.specs.declared.Spot.the-variants.{Nowhere}
-use Rattle.choosing.proofs.Rest.{whole-left, whole-right, whole-one, size-nil, size-cons, side-middle}
+use Rattle.building.proofs.Pouring.{size-nil, size-cons}
+use Rattle.choosing.proofs.Rest.{whole-left, whole-right, whole-one, side-middle}
 use Rattle.meaning.proofs.Programs.{Solid, solid-split}
 use Rattle.meaning.proofs.Steps.{leading-parts}
 use Rattle.elements.specs.Reading.{Balanced}

@@ -1,23 +1,34 @@
 //! The reference of Odolzagi: written from the papers alone, it makes the case files and what they are to give.
 //!
-//! `reference checks|matching|machine|desk DIR` writes DIR/stdin and DIR/stdout, the same at every run;
-//! `reference check-brute` compares the two matchers. Build with CARGO_TARGET_DIR outside the repository.
+//! It needs no package: `rustc -O --edition 2021 tests/reference/src/main.rs -o reference`; `tests/reference/check`
+//! builds it and holds the files in the repository against it. The modes are in `USAGE`.
 
 mod check;
+mod conditions;
 mod element;
+mod expand;
 mod invent;
 mod machine;
 mod make_checks;
 mod make_machine;
 mod make_matching;
+mod manual;
 mod matching;
 mod notation;
 #[cfg(test)]
 mod tests;
+mod text;
 mod worked;
 
 use std::collections::BTreeMap;
 use std::path::Path;
+
+const USAGE: &str = "\
+reference checks|matching|machine|desk DIR   writes the case file DIR/stdin and its print DIR/stdout
+reference manual                             lists the manual's programs, whose runs are confirmed
+reference expand DIR                         prints what expand prints for DIR/rules.bin and DIR/start.bin
+reference bytes FILE.ref... OUT.bin          writes the last text's bytes; the texts share one name list
+reference check-brute                        compares the two matchers";
 
 /// The case file, its expected print, and how many cases there are of each sort.
 #[derive(Default)]
@@ -77,11 +88,12 @@ fn matching(made: &mut Made) {
 }
 
 fn machine(made: &mut Made) {
-    for case in make_machine::cases() {
-        made.start(&case, case.budget);
-        let (answer, line) = case.run();
-        made.expect(&line, format!("code {}", answer.code));
+    let cases = make_machine::cases();
+    for case in &cases {
+        made.start(case, case.budget);
+        made.stdout += &case.run().1;
     }
+    made.counts = conditions::confirm(&cases, made.stdin.len());
 }
 
 fn desk(made: &mut Made) {
@@ -102,27 +114,55 @@ fn check_brute() {
     println!("{} cases, both matchers agree on all", cases.len());
 }
 
+/// The bytes of the last text; names are numbered through all texts.
+fn bytes(texts: &[&str], out: &str) -> Result<(), String> {
+    let mut names = text::Names::default();
+    let mut bytes = Vec::new();
+    for path in texts {
+        let text = std::fs::read_to_string(path).map_err(|fault| format!("{path}: {fault}"))?;
+        bytes = text::read(&text, &mut names).map_err(|fault| format!("{path}: {fault}"))?;
+    }
+    std::fs::write(out, &bytes).map_err(|fault| format!("{out}: {fault}"))?;
+    println!("{} bytes; names {}", bytes.len(), names.list());
+    Ok(())
+}
+
+/// Writes a case file and says what is in it.
+fn write(make: fn(&mut Made), mode: &str, directory: &Path) -> std::io::Result<()> {
+    let mut made = Made::default();
+    make(&mut made);
+    std::fs::create_dir_all(directory)?;
+    std::fs::write(directory.join("stdin"), &made.stdin)?;
+    std::fs::write(directory.join("stdout"), &made.stdout)?;
+    println!("{mode}: {} bytes of cases, {} lines expected", made.stdin.len(), made.stdout.lines().count());
+    made.counts.iter().for_each(|(sort, count)| println!("  {sort}: {count}"));
+    Ok(())
+}
+
+fn act(words: &[&str]) -> Result<(), String> {
+    let cases = |make, directory: &str| {
+        write(make, words[0], Path::new(directory)).map_err(|fault| format!("{directory}: {fault}"))
+    };
+    match *words {
+        ["check-brute"] => check_brute(),
+        ["checks", directory] => return cases(checks, directory),
+        ["matching", directory] => return cases(matching, directory),
+        ["machine", directory] => return cases(machine, directory),
+        ["desk", directory] => return cases(desk, directory),
+        ["manual"] => manual::programs().iter().zip(manual::FILES).for_each(|(_, (name, _))| println!("{name}")),
+        ["expand", directory] => print!("{}", expand::expand(Path::new(directory))),
+        ["bytes", ref texts @ .., out] if !texts.is_empty() => return bytes(texts, out),
+        _ => return Err(format!("what to do?\n{USAGE}")),
+    }
+    Ok(())
+}
+
 fn main() {
     worked::confirm();
     let words: Vec<String> = std::env::args().skip(1).collect();
-    let mut made = Made::default();
-    match (words.first().map(String::as_str), words.len()) {
-        (Some("check-brute"), 1) => return check_brute(),
-        (Some("checks"), 2) => checks(&mut made),
-        (Some("matching"), 2) => matching(&mut made),
-        (Some("machine"), 2) => machine(&mut made),
-        (Some("desk"), 2) => desk(&mut made),
-        _ => {
-            eprintln!("reference checks|matching|machine|desk DIR, or reference check-brute");
-            std::process::exit(2);
-        }
-    }
-    let directory = Path::new(&words[1]);
-    std::fs::create_dir_all(directory).expect("the directory can be made");
-    std::fs::write(directory.join("stdin"), &made.stdin).expect("the case file can be written");
-    std::fs::write(directory.join("stdout"), &made.stdout).expect("the expected print can be written");
-    println!("{}: {} bytes of cases, {} lines expected", words[0], made.stdin.len(), made.stdout.lines().count());
-    for (sort, count) in made.counts {
-        println!("  {sort}: {count}");
+    let words: Vec<&str> = words.iter().map(String::as_str).collect();
+    if let Err(fault) = act(&words) {
+        eprintln!("{fault}");
+        std::process::exit(1);
     }
 }

@@ -5,6 +5,7 @@ use crate::element::*;
 use crate::invent::*;
 use crate::machine::*;
 use crate::make_checks::{long_field, long_program};
+use crate::manual;
 use crate::notation::{bytes, hex};
 use crate::worked;
 
@@ -48,6 +49,14 @@ impl Case {
             lines += &format!("{used} {code} {place} {:08X} {:08X} {shown}\n", fnv(&field), fnv(&scratch));
         }
         (record.code, lines)
+    }
+
+    /// The same with a longer or shorter buffer, where the field still fits; the scratch is as long.
+    pub fn with_room(&self, more: isize) -> Option<Case> {
+        let room = self.buffer.len().checked_add_signed(more).filter(|room| *room >= self.used)?;
+        let mut buffer = self.buffer.clone();
+        buffer.resize(room, 0);
+        Some(Case { buffer, scratch: room, ..self.clone() })
     }
 
     /// Program and field in a buffer of this length, rubbish behind the field, a scratch just as long.
@@ -252,9 +261,44 @@ fn large(dice: &Dice, list: &mut Vec<Case>) {
     list.push(Case::new(dice, &bytes("{1 = ; } ."), &[], LONGEST, 0));
 }
 
+fn worked_case(dice: &Dice, run: &worked::Run) -> Case {
+    Case::new(dice, &run.program, &run.field, run.room, run.budget)
+}
+
 fn worked_cases(dice: &Dice) -> Vec<Case> {
-    let runs = worked::runs().into_iter();
-    runs.map(|case| Case::new(dice, &case.program, &case.field, case.room, case.budget)).collect()
+    worked::runs().iter().map(|run| worked_case(dice, run)).collect()
+}
+
+/// Programs that never end, or not soon, with budgets of some hundreds of steps.
+fn long_runs(dice: &Dice, list: &mut Vec<Case>) {
+    for (program, field, room) in [
+        ("{0 e0 = <0 e0 > ; } .", "<0 'loop >", 12),
+        ("{0 e0 = <1 e0 > ; } {1 e0 = <0 e0 > ; } .", "'a ( <0 > ) <2 >", 12),
+        ("{0 s0 e1 = <0 e1 s0 > ; } .", "<0 'abcde > 97", 19),
+        ("{0 e0 = <0 e0 'a > ; } .", "'x <0 >", 700),
+        ("{0 e0 = <1 > <0 e0 > ; } {1 = ; } .", "( <0 'b > )", 12),
+        ("{0 ( s0 e1 ) e2 = <0 ( e1 ) e2 s0 > ; ( ) e1 = <0 ( e1 ) > ; } .", "<0 ( 'ab 97 ) #7 >", 22),
+    ] {
+        for _ in 0..16 {
+            let budget = 100 + dice.below(500) as u32;
+            list.push(Case::new(dice, &bytes(program), &bytes(field), room, budget));
+        }
+    }
+}
+
+/// The manual's programs, with each budget that their files name, in just enough room; and one byte short.
+fn manual_cases(dice: &Dice, list: &mut Vec<Case>) {
+    for program in manual::programs() {
+        for run in &program.runs {
+            for budget in run.budgets() {
+                let exact = longest_field(&program.bytes, &run.start, run.start.len() + 1_000, budget);
+                list.push(Case::new(dice, &program.bytes, &run.start, exact + dice.pick(&[0, 0, 1, 9]), budget));
+                if exact > run.start.len() {
+                    list.push(Case::new(dice, &program.bytes, &run.start, exact - 1, budget));
+                }
+            }
+        }
+    }
 }
 
 pub fn cases() -> Vec<Case> {
@@ -277,6 +321,9 @@ pub fn cases() -> Vec<Case> {
     bad_sizes(&dice, &mut list);
     bad_bytes(&dice, &mut list);
     large(&dice, &mut list);
+    long_runs(&dice, &mut list);
+    list.extend(worked::matches_as_runs().iter().map(|run| worked_case(&dice, run)));
+    manual_cases(&dice, &mut list);
     list
 }
 

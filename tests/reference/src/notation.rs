@@ -49,3 +49,13 @@ pub fn macrodigit(value: u32) -> Vec<u8> {
 pub fn hex(bytes: &[u8]) -> String {
     bytes.iter().map(|byte| format!("{byte:02X}")).collect()
 }
+
+pub fn from_hex(digits: &str) -> Vec<u8> {
+    let byte = |at| u8::from_str_radix(&digits[at..at + 2], 16).expect("two hex digits");
+    (0..digits.len()).step_by(2).map(byte).collect()
+}
+
+/// Two digits a byte with single spaces, as `expand` prints them.
+pub fn spaced_hex(bytes: &[u8]) -> String {
+    bytes.iter().map(|byte| format!("{byte:02X}")).collect::<Vec<_>>().join(" ")
+}

@@ -1,9 +1,9 @@
 //! The sums of document 01 worked by hand; the numbers here are the document's, not any machine's.
 
-use crate::machine::{run, Answer};
+use crate::machine::{run, Answer, DONE, NO_MATCH};
 use crate::make_matching::line;
 use crate::matching::{brute, plain};
-use crate::notation::{bytes, hex};
+use crate::notation::{bytes, from_hex, hex};
 
 pub const P: &str = "{1 s0 e1 ( s0 t0 ) e2 = t0 ; s0 e1 = ; } .";
 pub const TRI: &str = "{3 e0 = e0 e0 e0 ; } .";
@@ -15,7 +15,7 @@ pub struct Run {
     pub field: Vec<u8>,
     pub room: usize,
     pub budget: u32,
-    answer: Answer,
+    pub answer: Answer,
     left: Vec<u8>,
 }
 
@@ -63,11 +63,29 @@ pub const MATCHES: [(&str, &str, &str); 8] = [
     ("s0 e1 ( s0 t0 ) e2", "'p ( 'p #2 ) ( 'p #4 )", "yes s0=0170 t0=020200 e1= e2=04017002040005\n"),
 ];
 
+/// Cases 8 to 11 as runs: a function with the left side, whose right side shows each value in brackets.
+pub fn matches_as_runs() -> Vec<Run> {
+    MATCHES.iter().map(|(left, argument, line)| shown(left, argument, line)).collect()
+}
+
+fn shown(left: &str, argument: &str, line: &str) -> Run {
+    let bindings: Vec<(&str, &str)> = line.split_whitespace().filter_map(|word| word.split_once('=')).collect();
+    let right: String = bindings.iter().map(|(variable, _)| format!("( {variable} ) ")).collect();
+    let program = bytes(&format!("{{1 {left} = {right} ; }} ."));
+    let field = bytes(&format!("<1 {argument} >"));
+    let values: String = bindings.iter().map(|(_, value)| format!("04{value}05")).collect();
+    let (code, steps, left) = match line.starts_with("yes") {
+        true => (DONE, 1, from_hex(&values)),
+        false => (NO_MATCH, 0, field.clone()),
+    };
+    Run { program, field, room: 100, budget: 10, answer: Answer { code, steps, used: left.len(), place: 0 }, left }
+}
+
 /// Stops everything if this reference disagrees with the document; no case file is made then.
 pub fn confirm() {
     assert_eq!(hex(&bytes(P)), "0D010008000A010408000900050A020B09000C08000A010B0C0E0F");
     assert_eq!(hex(&bytes(CASE_1)), "0601000170040170020200050401700204000507");
-    for (number, case) in runs().into_iter().enumerate() {
+    for (number, case) in runs().into_iter().chain(matches_as_runs()).enumerate() {
         let mut field = [case.field.clone(), vec![0xEE; case.room - case.field.len()]].concat();
         let mut scratch = vec![0xDD; case.room + 3];
         let answer = run(&case.program, &mut field, case.field.len(), &mut scratch, case.budget);

@@ -1,5 +1,5 @@
+use Rattle.kinds.specs.Slots.{valueOf}
 use Rattle.matching.proofs.Ends.{fixed-only, fixed-part, fixed-proper, settled-only, symbol-only, term-only, slot-below, held-there, single-level}
-use Rattle.matching.specs.Binding.{valueOf}
 use native.Mathlib.Omega.{arith}
 use mathlib.Core.Path.{sym, _∙_}
 use Rattle.matching.proofs.only_end.Statement.{statement}
