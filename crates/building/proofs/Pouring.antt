@@ -71,7 +71,7 @@ module _ (p : List ℕ) (at len : ℕ) (f b : List ℕ) (w : Known p at len f b)
       }
 
 -- a part of a part
-drop-take : (i m : ℕ) (l : List ℕ) → drop i (take (i + m) l) ≡ take m (drop i l)
+pub drop-take : (i m : ℕ) (l : List ℕ) → drop i (take (i + m) l) ≡ take m (drop i l)
 drop-take zero m l = rw zero-add
 drop-take (suc i) m [] = rw suc-add (sym (take-nil m))
 drop-take (suc i) m (x ∷ l) = rw suc-add (drop-take i m l)

@@ -26,6 +26,9 @@ named-back BadSizes = refl
 named-back BadProgram = refl
 named-back BadField = refl
 
+pub code-only : {c d : Code} → codeOf c ≡ codeOf d → c ≡ d
+code-only {c} {d} e = sym (named-back c) ∙ ap named e ∙ named-back d
+
 -- what `run` ensures
 pub Promised : (p f : List ℕ) (used : ℕ) (s : List ℕ) (budget : ℕ) → Answer → List ℕ → List ℕ → Type 0
 Promised p f used s budget r f′ s′ = machine p f used s budget ≡ answer (codeOf (r .code)) (r .steps) (r .used) (r .place) f′ s′
@@ -37,4 +40,4 @@ unfolding Promised
 only-run p f used s budget {r} {q} h k =
     let e = sym h ∙ k in
     let c : codeOf (r .code) ≡ codeOf (q .code) = cc in
-    (sym (named-back (r .code)) ∙ ap named c ∙ named-back (q .code), cc, cc, cc, cc, cc)
+    (code-only c, cc, cc, cc, cc, cc)

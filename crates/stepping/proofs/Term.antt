@@ -21,18 +21,13 @@ use Rattle.scanning.proofs.Scan.{join-field, size-field}
 use Rattle.choosing.specs.Choose.{restOf, Looked, there, nowhere}
 use Rattle.choosing.specs.declared.Spot.{Spot}
 use Rattle.choosing.specs.declared.Spot.the-variants.{Nowhere}
-use Rattle.building.proofs.Pouring.{size-nil, size-cons}
+use Rattle.building.proofs.Pouring.{drop-take, size-nil, size-cons}
 use Rattle.choosing.proofs.Rest.{whole-left, whole-right, whole-one, side-middle}
 use Rattle.meaning.proofs.Programs.{Solid, solid-split}
 use Rattle.meaning.proofs.Steps.{leading-parts}
 use Rattle.elements.specs.Reading.{Balanced}
 use Rattle.stepping.proofs.Argument.{argument-balanced}
 use Rattle.stepping.specs.Stepping.{argumentOf, Term, PutIn, put-fits, put-full, Stepped, stays}
-
-drop-take : (i m : ℕ) (l : List ℕ) → drop i (take (i + m) l) ≡ take m (drop i l)
-drop-take zero m l = rw zero-add
-drop-take (suc i) m [] = rw suc-add (sym (take-nil m))
-drop-take (suc i) m (x ∷ l) = rw suc-add (drop-take i m l)
 
 pub field-side : (f : List ℕ) (used : ℕ) → fieldOf f used ≡ sideOf f 0 used
 unfolding fieldOf sideOf

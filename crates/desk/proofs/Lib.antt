@@ -1,0 +1,2 @@
+pub mod Pointing
+pub mod Calls
