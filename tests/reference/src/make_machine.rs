@@ -37,9 +37,10 @@ impl Case {
         let (mut field, mut scratch) = (self.buffer.clone(), vec![self.fill; self.scratch]);
         let mut record = Record::fresh(self.used);
         let mut lines = String::new();
-        for _ in 0..calls {
+        for call in 1..=calls {
             record.call(&self.program, &mut field, &mut scratch);
             let Record { used, code, place } = record;
+            self.holds_the_law(call, (code, used, place), &field, &scratch);
             let part = pointer(code, used, place, &self.program, &field);
             let shown = match part.len() {
                 0 => "-".to_owned(),
@@ -49,6 +50,14 @@ impl Case {
             lines += &format!("{used} {code} {place} {:08X} {:08X} {shown}\n", fnv(&field), fnv(&scratch));
         }
         (record.code, lines)
+    }
+
+    /// So many calls leave what one run with that budget leaves.
+    fn holds_the_law(&self, calls: u32, record: (u8, usize, usize), field: &[u8], scratch: &[u8]) {
+        let (mut at_once, mut zero) = (self.buffer.clone(), vec![self.fill; self.scratch]);
+        let answer = run(&self.program, &mut at_once, self.used, &mut zero, calls);
+        assert_eq!((answer.code, answer.used, answer.place), record, "the law of {calls} calls");
+        assert!(at_once == field && zero == scratch, "the law of {calls} calls");
     }
 
     /// The same with a longer or shorter buffer, where the field still fits; the scratch is as long.
