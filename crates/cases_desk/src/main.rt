@@ -1,5 +1,4 @@
 // Steps through a case file with the desk, and prints after each call the record, hashes of the buffers, and the pointer's part.
-use casework::Word;
 use desk::Record;
 use machine::Answer;
 
@@ -22,14 +21,6 @@ fn part(s: &[u8]) {
     }
     casework::hex(&s[0..16]);
     casework::text(b"+\n");
-}
-
-fn set_all(s: &mut [u8], byte: u8) {
-    let mut i = 0;
-    while i < s.len() {
-        s[i] = byte;
-        i += 1;
-    }
 }
 
 fn line<'a>(noted: Record, program: &'a [u8], field: &'a [u8], scratch: &[u8]) {
@@ -61,33 +52,23 @@ fn calls(program: &[u8], field: &mut [u8], used: usize, scratch: &mut [u8], n: u
     }
 }
 
-// The field and what follows it in a case.
-fn case_from(program: &[u8], field: &mut [u8], scratch: &mut [u8]) -> bool {
-    let n = casework::load(field);
-    let used = casework::number_or_zero() as usize;
-    let m = casework::number_or_zero() as usize;
-    if scratch.len() < m {
-        return false;
-    }
-    let mut fill = [0u8; 1];
-    casework::fill(&mut fill);
-    set_all(&mut scratch[0..m], fill[0]);
-    let k = casework::number_or_zero();
-    calls(program, &mut field[0..n], used, &mut scratch[0..m], k);
-    true
-}
-
-// One case; false where the file ends.
+// One case; false where there is no more.
 fn case(program: &mut [u8], field: &mut [u8], scratch: &mut [u8]) -> bool {
-    let n = match casework::number() {
-        Word::Is(n) => n as usize,
-        Word::Over => return false,
-    };
-    if program.len() < n {
+    let c = casework::next_case(program, field, scratch);
+    if !c.more {
         return false;
     }
-    casework::fill(&mut program[0..n]);
-    case_from(&program[0..n], field, scratch)
+    let p = c.program;
+    let n = c.field;
+    let m = c.scratch;
+    calls(
+        &program[0..p],
+        &mut field[0..n],
+        c.used,
+        &mut scratch[0..m],
+        c.last,
+    );
+    true
 }
 
 fn cases(program: &mut [u8; 65600], field: &mut [u8; 65600], scratch: &mut [u8; 65600]) {

@@ -49,6 +49,63 @@ pub fn fill(buf: &mut [u8]) {
     io::read_full(STDIN_FILENO, buf);
 }
 
+// Sets every byte of a buffer.
+fn set_all(s: &mut [u8], byte: u8) {
+    let mut i = 0;
+    while i < s.len() {
+        s[i] = byte;
+        i += 1;
+    }
+}
+
+// A case of a run: whether there is one, how much of each buffer it has, the used length, and the number at its end.
+pub struct Case {
+    pub more: bool,
+    pub program: usize,
+    pub field: usize,
+    pub used: usize,
+    pub scratch: usize,
+    pub last: u32,
+}
+
+// Reads the next case into three buffers; there is no more where the file ends, or where the program or the scratch does not fit.
+pub fn next_case(program: &mut [u8], field: &mut [u8], scratch: &mut [u8]) -> Case
+    ensures { λ r. ⌜ r .program ≤ length (now (program .exit)) ⌝ }
+    ensures { λ r. ⌜ r .field ≤ length (now (field .exit)) ⌝ }
+    ensures { λ r. ⌜ r .scratch ≤ length (now (scratch .exit)) ⌝ }
+{
+    let mut c = Case {
+        more: false,
+        program: 0,
+        field: 0,
+        used: 0,
+        scratch: 0,
+        last: 0,
+    };
+    let n = match number() {
+        Word::Is(n) => n as usize,
+        Word::Over => return c,
+    };
+    if program.len() < n {
+        return c;
+    }
+    fill(&mut program[0..n]);
+    c.program = n;
+    c.field = load(field);
+    c.used = number_or_zero() as usize;
+    let m = number_or_zero() as usize;
+    if scratch.len() < m {
+        return c;
+    }
+    let mut byte = [0u8; 1];
+    fill(&mut byte);
+    set_all(&mut scratch[0..m], byte[0]);
+    c.scratch = m;
+    c.last = number_or_zero();
+    c.more = true;
+    c
+}
+
 pub fn text(s: &[u8]) {
     io::write_all(STDOUT_FILENO, s);
 }

@@ -1,3 +1,4 @@
+// Reads a field on to the next `>`, and notes the places of the open `<` on the way.
 ghost use Prim.Native.Nat.{_+_, _*_, _≤_, _<_};
 ghost use lib.ListN.{length};
 ghost use Rattle.scanning.specs.State.{Good, Scanned, Found};
