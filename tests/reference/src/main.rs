@@ -15,6 +15,7 @@ mod make_matching;
 mod manual;
 mod matching;
 mod notation;
+mod planner;
 #[cfg(test)]
 mod tests;
 mod text;
@@ -27,6 +28,7 @@ const USAGE: &str = "\
 reference checks|matching|machine|desk DIR   writes the case file DIR/stdin and its print DIR/stdout
 reference manual                             lists the manual's programs, whose runs are confirmed
 reference expand DIR                         prints what expand prints for DIR/rules.bin and DIR/start.bin
+reference planner DIR                        prints what the planners print for DIR/rules.bin and DIR/start.bin
 reference bytes FILE.ref... OUT.bin          writes the last text's bytes; the texts share one name list
 reference check-brute                        compares the two matchers";
 
@@ -151,6 +153,10 @@ fn act(words: &[&str]) -> Result<(), String> {
         ["desk", directory] => return cases(desk, directory),
         ["manual"] => manual::programs().iter().zip(manual::FILES).for_each(|(_, (name, _))| println!("{name}")),
         ["expand", directory] => print!("{}", expand::expand(Path::new(directory))),
+        ["planner", directory] => {
+            let text = planner::planner(Path::new(directory)).map_err(|fault| format!("{directory}: {fault}"))?;
+            print!("{text}");
+        }
         ["bytes", ref texts @ .., out] if !texts.is_empty() => return bytes(texts, out),
         _ => return Err(format!("what to do?\n{USAGE}")),
     }
