@@ -2,7 +2,7 @@
  *
  * The caller's duties. Each length is the length of what its pointer points to, and a pointer may be NULL only with length
  * 0. What a call writes (field, scratch, answer, record, part) overlaps nothing else that it is lent. Arrays of uint64_t are
- * aligned. The stack has 64 KB left. Nothing else is asked: bytes, sizes, numbers and budget may be anything.
+ * aligned. The stack has 128 KB left. Nothing else is asked: bytes, sizes, numbers and budget may be anything.
  *
  * A call keeps nothing and has no state of its own, so threads may call at once, each with its own buffers.
  */

@@ -7,7 +7,7 @@
 #include <stdlib.h>
 #include <string.h>
 
-enum { LONGEST = 65536, STACK = 1 << 20, PROMISED = 65536, PAINT = 0xA5 };
+enum { LONGEST = 65536, STACK = 1 << 20, PROMISED = 131072, PAINT = 0xA5 };
 
 static uint8_t program[LONGEST], field[LONGEST], scratch[LONGEST];
 static size_t program_len, used;

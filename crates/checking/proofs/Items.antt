@@ -19,7 +19,7 @@ use Rattle.checking.proofs.Tests.{span-le}
 one : ℕ → ℕ → Bool
 one k n = implies (span 8 10 k) (eqb n 1)
 
-body-one : (k : ℕ) → span 8 10 k ≡ true → body k ≡ 1
+pub body-one : (k : ℕ) → span 8 10 k ≡ true → body k ≡ 1
 unfolding one body span
 body-one k z =
     let w : implies (span 8 10 k) (eqb (getD bodies k 0) 1) ≡ true = T-true _ (table-at one bodies tt k (let q = span-le 8 10 k z in omega arith)) in

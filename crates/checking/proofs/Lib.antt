@@ -4,6 +4,8 @@ pub mod Tests
 pub mod Variables
 pub mod Items
 pub mod Stepping
+pub mod Passing
 pub mod Reading
+pub mod Fields
 pub mod Scratch
 pub mod Only

@@ -85,6 +85,11 @@ close-some k zero st (inl e) h = never (let w : false ≡ true = rw e at h in cc
 close-some k zero st (inr e) h = never (let w : false ≡ true = rw e at h in cc)
 close-some k (suc d) st e h = omega arith
 
+-- all but the closing brackets and the ends of sides
+pub alone : (k : ℕ) (opens : List ℕ) → k ≤ 10 → ((k ≡ 5) ⊎ (k ≡ 7) → ⊥) → paired k opens ≡ true
+unfolding paired endsSide
+alone k opens l n = rw (ne-eqb k 5 (λ e. n (inl e)), ne-eqb k 7 (λ e. n (inr e)), ne-eqb k 11 (omega arith), ne-eqb k 12 (omega arith))
+
 -- ---- after an element
 either : (k a b : ℕ) → (k ≡ a) ⊎ (k ≡ b) → (eqb k a || eqb k b) ≡ true
 either k a b (inl e) = rw (e, eq-eqb a a refl)
@@ -92,6 +97,10 @@ either k a b (inr e) = rw (e, eq-eqb b b refl) (or-right (eqb b a))
 
 neither : (k a b : ℕ) → ((k ≡ a) ⊎ (k ≡ b) → ⊥) → (eqb k a || eqb k b) ≡ false
 neither k a b n = rw (ne-eqb k a (λ e. n (inl e)), ne-eqb k b (λ e. n (inr e)))
+
+pub neither-of : (k a b : ℕ) → (k ≡ a → ⊥) → (k ≡ b → ⊥) → (k ≡ a) ⊎ (k ≡ b) → ⊥
+neither-of k a b m n (inl e) = m e
+neither-of k a b m n (inr e) = n e
 
 abbrev pub Becomes : ℕ → ℕ → List ℕ → ℕ → List ℕ → Type 0
 Becomes k d st d′ st′ = (d′ ≡ depthAfter k d) × (st′ ≡ stackAfter k d st)

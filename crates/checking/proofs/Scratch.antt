@@ -1,17 +1,15 @@
 -- The scratch: cleared from the front, and what the check of a field leaves of it.
 use mathlib.Core.Path.{_≡_, refl, _∙_}
-use mathlib.Core.List.{List, [], _++_, append-nil}
+use mathlib.Core.List.{List, _++_, append-nil}
 use Prim.Native.Nat.{ℕ, _+_, _≤_, _<_}
 use native.Mathlib.Omega.{arith}
 use lib.ListN.{length, replicate, drop, set, length-set, drop-of-length-le}
 use borrow.Author.Fill.{fill-more}
 use borrow.Author.Tests.{lt-ltb, le-ltb}
-use Rattle.meaning.specs.Elements.{elements}
-use Rattle.meaning.specs.Goodness.{at, firstBad, badField}
+use Rattle.meaning.specs.Goodness.{badField}
 use Rattle.checking.specs.declared.Check.{Check}
 use Rattle.checking.specs.declared.Check.the-variants.{Short}
 use Rattle.checking.specs.Answers.{checkOf, fieldCheck, scratchAfter}
-use Rattle.checking.specs.Standing.{partOf}
 
 pub record Clearing (old now : List ℕ) (i : ℕ) : Type 0 where
   pub inside : i ≤ length old
@@ -40,7 +38,6 @@ module _ (f old : List ℕ) where
   unfolding fieldCheck scratchAfter
   too-short h = rw (lt-ltb (length old) (length f) h) (refl, refl)
 
-  pub checked : {r : Check} {now : List ℕ} {n : ℕ} → length f ≤ length old → r ≡ checkOf (firstBad (at (partOf 0) [] 0 []) 0 (elements f))
-      → n ≡ length old → now ≡ replicate n 0 → Answers r now
-  unfolding fieldCheck scratchAfter badField partOf
+  pub checked : {r : Check} {now : List ℕ} {n : ℕ} → length f ≤ length old → r ≡ checkOf (badField f) → n ≡ length old → now ≡ replicate n 0 → Answers r now
+  unfolding fieldCheck scratchAfter
   checked h e l z = rw (le-ltb (length old) (length f) h, e, z, l) (refl, refl)

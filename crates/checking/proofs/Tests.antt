@@ -36,6 +36,10 @@ pub passes : (n : ℕ) {b : Bool} (bs : List Bool) {r : ℕ} → b ≡ true → 
 unfolding firstFailing
 passes n bs e f = rw e f
 
+pub passed : (n : ℕ) → 0 ≡ firstFailing n []
+unfolding firstFailing
+passed n = refl
+
 -- lists that agree as far as they are asked
 pub alike : (n : ℕ) {a : Bool} (b : Bool) (xs bs : List Bool) → a ≡ b → (b ≡ true → firstFailing (suc n) xs ≡ firstFailing (suc n) bs)
     → firstFailing n (a ∷ xs) ≡ firstFailing n (b ∷ bs)
@@ -109,14 +113,17 @@ module _ (p k n : ℕ) where
   pub room-end : endsSide k ≡ true → true ≡ (endsSide k || underLimit (partOf p) n)
   room-end e = rw e
 
-  pub room-field : endsSide k ≡ false → p ≡ 0 → true ≡ (endsSide k || underLimit (partOf p) n)
+  pub room-field : endsSide k ≡ false → p ≡ 0 → eqb p 0 ≡ (endsSide k || underLimit (partOf p) n)
   room-field e f = rw (e, limit-is p n, f)
 
-  pub room-right : endsSide k ≡ false → p ≡ 4 → ltb n 400 ≡ (endsSide k || underLimit (partOf p) n)
-  room-right e f = rw (e, limit-is p n, f)
+  pub room-else : endsSide k ≡ false → {b : Bool} → underLimit (partOf p) n ≡ b → b ≡ (endsSide k || underLimit (partOf p) n)
+  room-else e f = rw (e, f)
 
-  pub room-else : endsSide k ≡ false → (p ≡ 0 → ⊥) → (p ≡ 4 → ⊥) → ltb n 100 ≡ (endsSide k || underLimit (partOf p) n)
-  room-else e f g = rw (e, limit-is p n, ne-eqb p 0 f, ne-eqb p 4 g)
+pub limit-right : (p n : ℕ) → p ≡ 4 → underLimit (partOf p) n ≡ ltb n 400
+limit-right p n e = rw (limit-is p n, e)
+
+pub limit-else : (p n : ℕ) → (p ≡ 0 → ⊥) → (p ≡ 4 → ⊥) → underLimit (partOf p) n ≡ ltb n 100
+limit-else p n f g = rw (limit-is p n, ne-eqb p 0 f, ne-eqb p 4 g)
 
 pub under : (p n : ℕ) → eqb p 0 ≡ false → underLimit (partOf p) n ≡ true → n < 400
 under p n z h =

@@ -21,7 +21,7 @@ pub holds-none : Holds 0 0 []
 unfolding among
 holds-none = record { small = omega arith; counted = refl; marked = λ k v h l w. none-within (slotOf k v) }
 
-or-no : (b : Bool) → (b || false) ≡ b
+pub or-no : (b : Bool) → (b || false) ≡ b
 or-no true = refl
 or-no false = refl
 

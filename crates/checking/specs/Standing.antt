@@ -1,12 +1,13 @@
 -- What the check's state by value stands for, and one step of the check.
 use mathlib.Core.Path.{_≡_}
 use mathlib.Core.Bool.{Bool, true, false, _&&_, _||_, not, cond}
+use mathlib.Core.Option.{Option}
 use mathlib.Core.List.{List, [], _∷_}
 use Prim.Native.Nat.{ℕ, zero, suc, _+_, _-_, _*_, _^_, _≤_, _<_}
 use lib.ListN.{length, getD, take, drop, set}
 use lib.Dec.{eqb, leb, ltb}
-use Rattle.meaning.specs.Elements.{Element, kind, body, among}
-use Rattle.meaning.specs.Goodness.{Part, field, outside, start, left, right, after, ended, State as Stage, at, span, stands, implies, endsSide, paired, underLimit, onRight, fault, partAfter, sided, countAfter, stateAfter}
+use Rattle.meaning.specs.Elements.{Element, kind, body, among, elements}
+use Rattle.meaning.specs.Goodness.{Part, field, outside, start, left, right, after, ended, State as Stage, at, span, stands, implies, endsSide, paired, underLimit, onRight, fault, partAfter, sided, countAfter, stateAfter, firstBad}
 use Rattle.kinds.specs.Slots.{slotOf, within, joined}
 use Rattle.checking.specs.declared.State.{State}
 use Rattle.checking.specs.declared.Item.{Item}
@@ -125,3 +126,30 @@ pub record Steps (q : State) (e : Item) (st : List ℕ) (r : Taken) (st′ : Lis
   pub next-is : {s : Stage} {x : Element} → Means q st s → Tells e x → r .fault ≡ 0 → Means (r .next) st′ (stateAfter s x)
   pub stack-is : r .fault ≡ 0 → st′ ≡ stackAfter (e .kind) (q .depth) st
   pub kept : (r .fault ≡ 0 → ⊥) → (r .next ≡ q) × (st′ ≡ st)
+
+-- an element with its whole body
+abbrev pub entireOf : ℕ → ℕ → Item
+entireOf k v = record { kind = k; whole = true; value = v }
+
+-- a side of a sentence, and it may have an element more
+abbrev pub HasRoom : State → Type 0
+HasRoom q = (span 3 4 (q .part) ≡ true) × (underLimit (partOf (q .part)) (q .count) ≡ true)
+
+-- where no fault is named, a step of the check was made within the part; else the stack is as it was
+pub record Tried (q : State) (e : Item) (st : List ℕ) (r : Taken) (st′ : List ℕ) : Type 0 where
+  pub steps : r .fault ≡ 0 → Steps q e st r st′
+  pub part : r .next .part ≡ q .part
+  pub kept : (r .fault ≡ 0 → ⊥) → st′ ≡ st
+
+-- i bytes of a program have been read, and the state q stands for where reading is; the first bad element is found from there on
+pub record Reading (found : Option ℕ) (bs : List ℕ) (i : ℕ) (q : State) (st : List ℕ) : Type 0 where
+  pub stage : Stage
+  pub means : Means q st stage
+  pub program : 0 < q .part
+  pub room : 400 ≤ length st
+  pub inside : i ≤ length bs
+  pub same : found ≡ firstBad stage i (elements (drop i bs))
+
+-- what is found from i on, in the state q, is found from j on, in the state q′
+abbrev pub Onward : List ℕ → ℕ → State → List ℕ → ℕ → State → List ℕ → Type 0
+Onward bs i q st j q′ st′ = (found : Option ℕ) → Reading found bs i q st → Reading found bs j q′ st′

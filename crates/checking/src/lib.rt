@@ -1,14 +1,14 @@
 // Whether bytes are a good program or a good field, and if not, where the first bad element stands.
 ghost use mathlib.Core.Path.{_≡_};
 ghost use mathlib.Core.Bool.{true, false, _||_};
-ghost use mathlib.Core.List.{List, []};
+ghost use mathlib.Core.List.{List};
 ghost use Prim.Native.Nat.{ℕ, _+_, _^_, _≤_, _<_};
 ghost use lib.ListN.{length, replicate};
-ghost use lib.Dec.{leb};
-ghost use Rattle.meaning.specs.Elements.{Element, elements};
-ghost use Rattle.meaning.specs.Goodness.{at, span, implies, endsSide, top, paired, underLimit, firstFailing, sided, countAfter, mayEnd, firstBad, badProgram};
+ghost use lib.Dec.{leb, ltb};
+ghost use Rattle.meaning.specs.Elements.{Element};
+ghost use Rattle.meaning.specs.Goodness.{at, span, implies, endsSide, top, paired, underLimit, firstFailing, sided, countAfter, mayEnd, badProgram, badField};
 ghost use Rattle.checking.specs.Answers.{checkOf, fieldCheck, scratchAfter};
-ghost use Rattle.checking.specs.Standing.{partOf, nextOf, Leads, opened, stackAfter, depthAfter, needed, fresh, limitsOf, testsOf, Movable, movedTo, Ready, Tells, elementAt, Steps};
+ghost use Rattle.checking.specs.Standing.{partOf, nextOf, Leads, opened, stackAfter, depthAfter, fresh, limitsOf, testsOf, Movable, movedTo, entireOf, HasRoom, Ready, Tells, elementAt, Steps, Tried, Onward};
 
 // What a check finds: nothing bad; the place of the first bad element; or that the scratch is shorter than the field.
 pub enum Check {
@@ -39,12 +39,24 @@ pub struct Taken {
     pub next: State,
 }
 
+// How far reading came, and where it stands there.
+struct Passed {
+    at: usize,
+    state: State,
+}
+
 // The parts that the code names, by their place in the definition; NOWHERE is none of them.
 const FIELD: u8 = 0;
 
 const OUTSIDE: u8 = 1;
 
+const START: u8 = 2;
+
+const LEFT: u8 = 3;
+
 const RIGHT: u8 = 4;
+
+const AFTER: u8 = 5;
 
 const NOWHERE: u8 = 7;
 
@@ -102,6 +114,13 @@ fn is_paired(kind: u8, depth: usize, stack: &[u8]) -> bool
     }
 }
 
+// How many elements a side of a sentence may have.
+fn limit_of(part: u8) -> usize
+    ensures { λ r. ⌜ ((n : ℕ) → (part ≡ 0 → ⊥) → underLimit (partOf part) n ≡ ltb n r) ⌝ }
+{
+    if part == RIGHT { 400 } else { 100 }
+}
+
 // The end of a side is no element of it.
 fn has_room(part: u8, kind: u8, count: usize) -> bool
     ensures { λ r. ⌜ r ≡ (endsSide kind || underLimit (partOf part) count) ⌝ }
@@ -109,11 +128,7 @@ fn has_room(part: u8, kind: u8, count: usize) -> bool
     if ends_side(kind) {
         return true;
     }
-    match part {
-        FIELD => true,
-        RIGHT => count < 400,
-        _ => count < 100,
-    }
+    part == FIELD || count < limit_of(part)
 }
 
 fn is_numbered(kind: u8, value: u8) -> bool
@@ -272,29 +287,197 @@ fn item_at(bytes: &[u8], at: usize) -> Item
     e
 }
 
-// One pass over the elements, beginning in the given part.
-fn first_bad(bytes: &[u8], part: u8, stack: &mut [u8]) -> Check
-    requires { ⌜ (part < 7) × (needed part (length (now bytes)) ≤ length (now stack)) ⌝ }
-    ensures { λ r. ⌜ r ≡ checkOf (firstBad (at (partOf part) [] 0 []) 0 (elements (now (bytes .entry)))) ⌝ }
+// An element with its whole body.
+fn entire(kind: u8, value: u8) -> Item
+    ensures { λ r. ⌜ r ≡ entireOf kind value ⌝ }
+{
+    Item {
+        kind,
+        whole: true,
+        value,
+    }
+}
+
+// Takes a bracket that surely can stand in this side; a fault only says that `take` has to look.
+fn pass_bracket(state: State, kind: u8, stack: &mut [u8]) -> Taken
+    requires { ⌜ HasRoom state × Ready state (now stack) × (4 ≤ kind) × (kind ≤ 7) ⌝ }
+    ensures { λ r. ⌜ Tried state (entireOf kind 0) (now (stack .entry)) r (now (stack .exit)) ⌝ }
+{
+    let refused = Taken {
+        fault: 5,
+        next: state,
+    };
+    if 5 < kind {
+        if state.part != RIGHT {
+            return refused;
+        }
+    }
+    if !is_paired(kind, state.depth, stack) {
+        return refused;
+    }
+    let depth = brackets_after(stack, state.depth, kind);
+    let next = state_after(state, entire(kind, 0), state.part, depth, false);
+    Taken { fault: 0, next }
+}
+
+// Takes a variable that surely can stand in this side.
+fn pass_variable(state: State, kind: u8, value: u8) -> Taken
+    requires { ⌜ HasRoom state × (8 ≤ kind) × (kind ≤ 10) ⌝ }
+    ensures { λ r. ⌜ ((st : List ℕ) → Ready state st → Tried state (entireOf kind value) st r st) ⌝ }
+{
+    let refused = Taken {
+        fault: 6,
+        next: state,
+    };
+    if 15 < value {
+        return refused;
+    }
+    let new = is_fresh(state.set, kind, value);
+    if new {
+        if state.part == RIGHT {
+            return refused;
+        }
+        if 15 < state.number {
+            return refused;
+        }
+    }
+    let next = state_after(state, entire(kind, value), state.part, state.depth, new);
+    Taken { fault: 0, next }
+}
+
+// Passes the elements of a side that surely are good, and leaves the others to `take`.
+fn pass_side(bytes: &[u8], from: usize, start: State, stack: &mut [u8]) -> Passed
+    requires { ⌜ (span 3 4 (start .part) ≡ true) × Ready start (now stack) × (from ≤ length (now bytes)) ⌝ }
+    ensures { λ r. ⌜ (from ≤ r .at) × Onward (now (bytes .entry)) from start (now (stack .entry)) (r .at) (r .state) (now (stack .exit)) ⌝ }
+{
+    let limit = limit_of(start.part);
+    let mut at = from;
+    let mut state = start;
+    // no element is longer than five bytes, so none is cut short here
+    while at + 5 <= bytes.len() {
+        let kind = bytes[at];
+        if limit <= state.count {
+            return Passed { at, state };
+        }
+        match kind {
+            1 | 2 | 3 => {
+                state.count += 1;
+                at = at + 1 + kinds::body_of(kind);
+            }
+            4 | 5 | 6 | 7 => {
+                let taken = pass_bracket(state, kind, stack);
+                if taken.fault != 0 {
+                    return Passed { at, state };
+                }
+                state = taken.next;
+                at = at + 1 + kinds::body_of(kind);
+            }
+            8 | 9 | 10 => {
+                let taken = pass_variable(state, kind, bytes[at + 1]);
+                if taken.fault != 0 {
+                    return Passed { at, state };
+                }
+                state = taken.next;
+                at += 2;
+            }
+            _ => return Passed { at, state },
+        }
+    }
+    Passed { at, state }
+}
+
+// Passes the end of a side, if it may end here.
+fn pass_end(bytes: &[u8], at: usize, state: State, moves: &[u8; 224]) -> Passed
+    requires { ⌜ Leads (now moves) × (state .part < 7) ⌝ }
+    ensures { λ r. ⌜ (at ≤ r .at) × ((st : List ℕ) → Onward (now (bytes .entry)) at state st (r .at) (r .state) st) ⌝ }
+{
+    let refused = Passed { at, state };
+    if bytes.len() <= at {
+        return refused;
+    }
+    let kind = bytes[at];
+    if !ends_side(kind) {
+        return refused;
+    }
+    let to = next_part(moves, state.part, kind);
+    if to == NOWHERE {
+        return refused;
+    }
+    if state.depth != 0 {
+        return refused;
+    }
+    let next = state_after(state, entire(kind, 0), to, 0, false);
+    Passed {
+        at: at + 1,
+        state: next,
+    }
+}
+
+// Before a sentence reading may as well be in its left side; 0E begins no sentence.
+fn enter(bytes: &[u8], at: usize, mut state: State) -> State
+    ensures { λ r. ⌜ ((st : List ℕ) → Onward (now (bytes .entry)) at state st at r st) ⌝ }
+{
+    if bytes.len() <= at {
+        return state;
+    }
+    if bytes[at] == 14 {
+        return state;
+    }
+    if state.part == START || state.part == AFTER {
+        state.part = LEFT;
+    }
+    state
+}
+
+// Passes sentences, up to the first element that is not surely good.
+fn pass_sentences(
+    bytes: &[u8],
+    from: usize,
+    start: State,
+    moves: &[u8; 224],
+    stack: &mut [u8],
+) -> Passed
+    requires { ⌜ Leads (now moves) × Ready start (now stack) × (0 < start .part) × (from ≤ length (now bytes)) ⌝ }
+    ensures { λ r. ⌜ (from ≤ r .at) × Onward (now (bytes .entry)) from start (now (stack .entry)) (r .at) (r .state) (now (stack .exit)) ⌝ }
+{
+    let mut at = from;
+    let mut state = enter(bytes, from, start);
+    while between(3, 4, state.part) {
+        let side = pass_side(bytes, at, state, stack);
+        let end = pass_end(bytes, side.at, side.state, moves);
+        if end.at <= side.at {
+            return side;
+        }
+        at = end.at;
+        state = enter(bytes, at, end.state);
+    }
+    Passed { at, state }
+}
+
+// One pass over a program. What surely is good is passed quickly; only `take` says that an element is bad.
+fn first_bad(program: &[u8], stack: &mut [u8]) -> Check
+    requires { ⌜ 400 ≤ length (now stack) ⌝ }
+    ensures { λ r. ⌜ r ≡ checkOf (badProgram (now (program .entry))) ⌝ }
 {
     let moves = NEXT;
     let mut at: usize = 0;
     let mut state = State {
-        part,
+        part: OUTSIDE,
         depth: 0,
         count: 0,
         set: 0,
         number: 0,
     };
-    while at < bytes.len() {
-        let e = item_at(bytes, at);
+    while at < program.len() {
+        let e = item_at(program, at);
         let after = at + 1 + kinds::body_of(e.kind);
         let taken = take(state, e, &moves, stack);
         if taken.fault != 0 {
             return Check::Bad(at);
         }
-        state = taken.next;
-        at = after;
+        let passed = pass_sentences(program, after, taken.next, &moves, stack);
+        at = passed.at;
+        state = passed.state;
     }
     if may_end(state) {
         Check::Good
@@ -308,7 +491,7 @@ pub fn check_program(program: &[u8]) -> Check
 {
     // a right side has at most 400 elements
     let mut stack = [0u8; 400];
-    first_bad(program, OUTSIDE, &mut stack)
+    first_bad(program, &mut stack)
 }
 
 fn clear(bytes: &mut [u8])
@@ -321,6 +504,44 @@ fn clear(bytes: &mut [u8])
     }
 }
 
+// One pass over a field, which has no limits: of what came before only the open brackets count.
+fn first_bad_in_field(field: &[u8], stack: &mut [u8]) -> Check
+    requires { ⌜ length (now field) ≤ length (now stack) ⌝ }
+    ensures { λ r. ⌜ r ≡ checkOf (badField (now (field .entry))) ⌝ }
+{
+    let mut at: usize = 0;
+    let mut depth: usize = 0;
+    while at < field.len() {
+        let kind = field[at];
+        let body = kinds::body_of(kind);
+        if field.len() - at <= body {
+            return Check::Bad(at);
+        }
+        match kind {
+            1 => at = kinds::past_characters(field, at + 2),
+            2 | 3 => at = at + 1 + body,
+            4 | 6 => {
+                stack[depth] = kind;
+                depth += 1;
+                at = at + 1 + body;
+            }
+            5 | 7 => {
+                if top_of(stack, depth) != kind - 1 {
+                    return Check::Bad(at);
+                }
+                depth -= 1;
+                at += 1;
+            }
+            _ => return Check::Bad(at),
+        }
+    }
+    if depth == 0 {
+        Check::Good
+    } else {
+        Check::Bad(at)
+    }
+}
+
 // A field may have as many brackets open as it has bytes, so they are kept in the scratch.
 pub fn check_field(field: &[u8], scratch: &mut [u8]) -> Check
     ensures { λ r. ⌜ (r ≡ fieldCheck (now (field .entry)) (now (scratch .entry))) × (now (scratch .exit) ≡ scratchAfter (now (field .entry)) (now (scratch .entry))) ⌝ }
@@ -328,7 +549,7 @@ pub fn check_field(field: &[u8], scratch: &mut [u8]) -> Check
     if scratch.len() < field.len() {
         return Check::Short;
     }
-    let found = first_bad(field, FIELD, scratch);
+    let found = first_bad_in_field(field, scratch);
     clear(scratch);
     found
 }

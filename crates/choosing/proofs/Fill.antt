@@ -20,8 +20,9 @@ use Rattle.meaning.proofs.Programs.{before-here, behind-here, behind-on, pieces
 use Rattle.matching.specs.Binding.{LeftSide, Matched, no-fit, first-fit}
 use Rattle.building.specs.Build.{sideOf, pour, Ready}
 use Rattle.choosing.specs.Choose.{restOf, sentences, Sentence, Body, body-end, body-more, Chosen, none-fits, one-fits}
-use Rattle.building.proofs.Pouring.{size-nil, size-cons}
-use Rattle.choosing.proofs.Rest.{whole-left, whole-right, whole-one, side-middle, side-behind, middle-within, behind-whole, rest-is, kind-el, first-kind, rest-end}
+use Rattle.scanning.proofs.Marks.{size-nil, size-cons, whole-left, whole-right}
+use Rattle.building.proofs.Sides.{side-middle, side-behind, middle-within, behind-whole}
+use Rattle.choosing.proofs.Rest.{whole-one, rest-is, kind-el, first-kind, rest-end}
 use Rattle.choosing.proofs.Values.{valued, Has, ready, poured, put-whole, calm}
 
 -- CUTTING A BODY INTO SENTENCES

@@ -16,76 +16,14 @@ use Rattle.meaning.proofs.Cutting.{Whole, w-none, w-more, cut-join, join-cut}
 use Rattle.meaning.proofs.Leading.{join-append, size-append}
 use Rattle.meaning.proofs.Programs.{before-here, before-on}
 use Rattle.building.specs.Build.{sideOf}
-use Rattle.building.proofs.Pouring.{kind-first, side-is, side-within, side-rest, side-end, size-nil, size-cons}
+use Rattle.scanning.proofs.Marks.{size-nil, size-cons}
+use Rattle.building.proofs.Sides.{kind-first, side-is, side-within, side-rest, side-end}
 use Rattle.choosing.specs.declared.Spot.the-variants.{At, Nowhere}
 use Rattle.choosing.specs.Choose.{restOf, sentences, Body, Bodies, bodies-none, bodies-more, Program, Looked, there, nowhere}
-
-pub whole-right : (xs ys zs : List Element) → zs ≡ xs ++ ys → Whole zs → Whole ys
-whole-right [] ys zs e w = rw e at w
-whole-right (x ∷ xs) ys zs e w-none = never (cc)
-whole-right (x ∷ xs) ys zs e (w-more {k} {b} {es} h w) = whole-right xs ys es (cc) w
-
-pub whole-left : (xs ys zs : List Element) → zs ≡ xs ++ ys → Whole zs → Whole xs
-whole-left [] ys zs e w = w-none
-whole-left (x ∷ xs) ys zs e w-none = never (cc)
-whole-left (x ∷ xs) ys zs e (w-more {k} {b} {es} h w) =
-    let i : k ∷ b ≡ x = cc in
-    subst (λ (z : Element). Whole (z ∷ xs)) i (w-more h (whole-left xs ys es (cc) w))
 
 pub whole-one : (e : Element) (es zs : List Element) → zs ≡ e ∷ es → Whole zs → length e ≡ suc (body (kind e))
 whole-one e es zs q w-none = never (cc)
 whole-one e es zs q (w-more {k} {b} h w) = let i : k ∷ b ≡ e = cc in rw (← i) (ap suc h)
-
-pub join-whole : (es : List Element) → Whole es → cut 0 (join es) ≡ es
-unfolding cut
-join-whole es w = ap (cut 0) (sym (append-nil (join es))) ∙ cut-join w [] ∙ append-nil es
-
-pub join-side : (f : List ℕ) (lo hi : ℕ) → join (sideOf f lo hi) ≡ drop lo (take hi f)
-unfolding sideOf
-join-side f lo hi = join-cut (drop lo (take hi f))
-
-pub size-side : (f : List ℕ) (lo hi : ℕ) → hi ≤ length f → size (sideOf f lo hi) ≡ hi - lo
-unfolding size
-size-side f lo hi h = ap length (join-side f lo hi) ∙ length-drop lo (take hi f) ∙ omega (arith, length-take-le hi f h)
-
--- the elements in the middle, and those behind them
-module _ (f : List ℕ) (lo hi : ℕ) (fits : hi ≤ length f) (up : lo ≤ hi) (a m b : List Element) (parts : sideOf f lo hi ≡ a ++ (m ++ b)) (w : Whole (sideOf f lo hi)) where
-  sizes : lo + size a + size m + size b ≡ hi
-  sizes = omega (arith, size-side f lo hi fits, ap size parts, size-append a (m ++ b), size-append m b)
-
-  bytes : take hi f ≡ take lo f ++ (join a ++ (join m ++ join b))
-  bytes =
-      sym (take-append-drop lo (take hi f))
-      ∙ ap₂ {C = List ℕ} (λ (x y : List ℕ). x ++ y) (take-take lo hi f up)
-      (sym (join-side f lo hi) ∙ ap join parts ∙ join-append a (m ++ b) ∙ ap (λ (z : List ℕ). join a ++ z) (join-append m b))
-
-  pub behind-whole : Whole b
-  behind-whole = whole-right m b (m ++ b) refl (whole-right a (m ++ b) (sideOf f lo hi) parts w)
-
-  pub middle-whole : Whole m
-  middle-whole = whole-left m b (m ++ b) refl (whole-right a (m ++ b) (sideOf f lo hi) parts w)
-
-  pub side-middle : sideOf f (lo + size a) (lo + size a + size m) ≡ m
-  unfolding sideOf size
-  side-middle =
-      let z = sizes in
-      let q : ℕ = lo + size a + size m in
-      let front : List ℕ = take lo f ++ join a in
-      let lf : length front ≡ lo + size a = omega (arith, length-append (take lo f) (join a), length-take-le lo f (omega arith)) in
-      let i : take hi f ≡ (front ++ join m) ++ join b = bytes ∙ sym (append-assoc (take lo f) (join a) (join m ++ join b)) ∙ sym (append-assoc front (join m) (join b)) in
-      let t : take q f ≡ front ++ join m = sym (take-take q hi f (omega arith)) ∙ ap (take q) i ∙ take-at (front ++ join m) (join b) q (length-append front (join m) ∙ omega arith) in
-      ap (λ (l : List ℕ). cut 0 (drop (lo + size a) l)) t ∙ ap (cut 0) (drop-at front (join m) (lo + size a) lf) ∙ join-whole m middle-whole
-
-  pub middle-within : lo + size a + size m ≤ hi
-  middle-within = let z = sizes in omega arith
-
-  pub side-behind : sideOf f (lo + size a + size m) hi ≡ b
-  unfolding sideOf size
-  side-behind =
-      let front : List ℕ = (take lo f ++ join a) ++ join m in
-      let lf : length front ≡ lo + size a + size m = omega (arith, length-append (take lo f ++ join a) (join m), length-append (take lo f) (join a), length-take-le lo f (omega arith)) in
-      let i : take hi f ≡ front ++ join b = bytes ∙ sym (append-assoc (take lo f) (join a) (join m ++ join b)) ∙ sym (append-assoc (take lo f ++ join a) (join m) (join b)) in
-      ap (λ (l : List ℕ). cut 0 (drop (lo + size a + size m) l)) i ∙ ap (cut 0) (drop-at front (join b) (lo + size a + size m) lf) ∙ join-whole b behind-whole
 
 -- ONE ELEMENT
 module _ (p : List ℕ) (at : ℕ) (h : at < length p) (w : Whole (restOf p at)) where
@@ -173,7 +111,7 @@ module _ (p : List ℕ) (at : ℕ) (fits : at + 1 + body (getD p at 0) ≤ lengt
   pub header-long : getD p at 0 ≡ 13 → at + 3 ≤ length p
   header-long e = let t = three e in omega arith
 
-  header-is : getD p at 0 ≡ 13 → take (1 + body (getD p at 0)) (drop at p) ≡ 13 ∷ getD p (at + 1) 0 ∷ getD p (at + 2) 0 ∷ []
+  pub header-is : getD p at 0 ≡ 13 → take (1 + body (getD p at 0)) (drop at p) ≡ 13 ∷ getD p (at + 1) 0 ∷ getD p (at + 2) 0 ∷ []
   header-is e =
       let t = three e in
       ap (λ (n : ℕ). take n (drop at p)) t ∙ take-three p at (omega arith) ∙ rw e
@@ -204,7 +142,7 @@ pub record Finding (p name : List ℕ) (i : ℕ) : Type 0 where
   pub bodies : Bodies (restOf p i)
   pub so : function name (restOf p 0) ≡ function name (restOf p i)
 
-bodies-first : {zs : List Element} (e : Element) (es : List Element) → Bodies zs → zs ≡ e ∷ es → (kind e ≡ 13 → Body es) × Bodies es
+pub bodies-first : {zs : List Element} (e : Element) (es : List Element) → Bodies zs → zs ≡ e ∷ es → (kind e ≡ 13 → Body es) × Bodies es
 bodies-first e es bodies-none q = never (cc)
 bodies-first e es (bodies-more {e = e′} {es = es′} h r) q =
     let i : e′ ≡ e = cc in let j : es′ ≡ es = cc in

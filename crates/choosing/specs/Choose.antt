@@ -4,7 +4,7 @@ use mathlib.Core.Bool.{Bool, true, false}
 use mathlib.Core.Option.{Option, none, some}
 use mathlib.Core.Logic.{_⊎_}
 use mathlib.Core.List.{List, [], _∷_, _++_}
-use Prim.Native.Nat.{ℕ, _+_, _-_, _≤_, _<_}
+use Prim.Native.Nat.{ℕ, _+_, _-_, _*_, _%_, _≤_, _<_}
 use lib.ListN.{length, getD}
 use Rattle.meaning.specs.Elements.{Element, kind, isVariable, join, among}
 use Rattle.meaning.specs.Matching.{put}
@@ -60,15 +60,28 @@ pub data Chosen (p f b : List ℕ) (o : Option (List Element)) : Bool → ℕ �
       → ((v : Element) → among v (sideOf p a e) ≡ true → isVariable v ≡ true → Calm f b v (val v)) → ((v : Element) → isVariable v ≡ false → val v ≡ v ∷ [])
       → Chosen p f b o true a e
 
--- the cache: for each low byte of a name nothing (0), or the high byte and the place of the function's body
-abbrev pub Entry : List ℕ → ℕ → ℕ → ℕ → Type 0
-Entry p lo hi i = (i ≡ 0) ⊎ Looked p (lo ∷ hi ∷ []) (At i)
+-- the place of a name in the table
+abbrev pub slotFor : ℕ → ℕ → ℕ
+slotFor lo hi = (lo + hi * 256) % 8192
 
-pub record Cache (p his spots : List ℕ) : Type 0 where
-  pub long-his : length his ≡ 256
-  pub long-spots : length spots ≡ 256
-  pub each : (h : ℕ) → h < 256 → Entry p h (getD his h 0) (getD spots h 0)
+-- what an entry of the table says of a name, the program being read up to i: no header came to this place so far; or the first that did has its body there
+pub data Entry (p : List ℕ) (i lo hi : ℕ) : ℕ → Type 0 where
+  empty : {s : ℕ} → s ≡ 0 → function (lo ∷ hi ∷ []) (restOf p 0) ≡ function (lo ∷ hi ∷ []) (restOf p i) → Entry p i lo hi s
+  taken : {s : ℕ} → 3 ≤ s → s < length p → (getD p (s - 2) 0 ≡ lo → getD p (s - 1) 0 ≡ hi → Looked p (lo ∷ hi ∷ []) (At s)) → Entry p i lo hi s
 
-pub record Cached (p : List ℕ) (lo hi : ℕ) (r : Spot) (his spots : List ℕ) : Type 0 where
+-- the table, the program being read up to i
+pub record Indexed (p : List ℕ) (i : ℕ) (spots : List ℕ) : Type 0 where
+  pub upto : i ≤ length p
+  pub whole : Whole (restOf p i)
+  pub bodies : Bodies (restOf p i)
+  pub long : length spots ≡ 8192
+  pub each : (lo hi : ℕ) → Entry p i lo hi (getD spots (slotFor lo hi) 0)
+
+-- the table with the place up to which the program is read
+pub record Cache (p indexed spots : List ℕ) : Type 0 where
+  pub one : length indexed ≡ 1
+  pub table : Indexed p (getD indexed 0 0) spots
+
+pub record Cached (p : List ℕ) (lo hi : ℕ) (r : Spot) (indexed spots : List ℕ) : Type 0 where
   pub looked : Looked p (lo ∷ hi ∷ []) r
-  pub cache : Cache p his spots
+  pub cache : Cache p indexed spots

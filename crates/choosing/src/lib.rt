@@ -1,13 +1,13 @@
 // Finds a function in a good program, and in its body the first sentence that fits.
 ghost use mathlib.Core.Path.{_≡_};
 ghost use mathlib.Core.List.{_∷_, []};
-ghost use Prim.Native.Nat.{_+_, _≤_};
+ghost use Prim.Native.Nat.{_+_, _≤_, _<_};
 ghost use lib.ListN.{length, take, drop, getD};
 ghost use Rattle.meaning.specs.Elements.{body, elements, same, size};
 ghost use Rattle.meaning.specs.Machine.{before, apply};
 ghost use Rattle.meaning.proofs.Cutting.{Whole};
 ghost use Rattle.elements.specs.Reading.{Balanced};
-ghost use Rattle.choosing.specs.Choose.{restOf, sentences, Body, Program, Looked, Cache, Cached, Chosen};
+ghost use Rattle.choosing.specs.Choose.{restOf, sentences, Body, Program, Looked, slotFor, Indexed, Cache, Cached, Chosen};
 
 // Where a function's body begins, if there is such a function.
 pub enum Spot {
@@ -101,27 +101,63 @@ pub fn choose(program: &[u8], body: usize, arg: &[u8], binds: &mut [usize]) -> C
     }
 }
 
-// The same through a cache by the name's low byte; a place 0 in it is none, as a header stands before each body.
-pub fn look_up(program: &[u8], lo: u8, hi: u8, his: &mut [u8], spots: &mut [u16]) -> Spot
+// Where the table has a function: by its name, so that only names 8,192 apart share a place.
+fn slot_of(lo: u8, hi: u8) -> usize
+    ensures { λ r. ⌜ (r ≡ slotFor lo hi) × (r < 8192) ⌝ }
+{
+    (lo as usize + hi as usize * 256) % 8192
+}
+
+// Reads the element at `at` into the table, where a header keeps the place that it came first to; answers where the next element is.
+fn index_one(program: &[u8], at: usize, spots: &mut [u16]) -> usize
+    requires { ⌜ Indexed (now program) at (now spots) × (at < length (now program)) × (length (now program) ≤ 65536) ⌝ }
+    ensures { λ r. ⌜ Indexed (now (program .entry)) r (now (spots .exit)) × (at < r) ⌝ }
+{
+    let next = at + 1 + kinds::body_of(program[at]);
+    if program[at] != 13 {
+        return next;
+    }
+    let slot = slot_of(program[at + 1], program[at + 2]);
+    if spots[slot] == 0 {
+        spots[slot] = next as u16;
+    }
+    next
+}
+
+// Reads on until the table has something in a place, or the program ends.
+fn index_to(program: &[u8], slot: usize, indexed: &mut [usize], spots: &mut [u16])
+    requires { ⌜ Cache (now program) (now indexed) (now spots) × (slot < 8192) × (length (now program) ≤ 65536) ⌝ }
+    ensures { λ _. ⌜ Cache (now (program .entry)) (now (indexed .exit)) (now (spots .exit)) × (getD (now (spots .exit)) slot 0 ≡ 0 → getD (now (indexed .exit)) 0 0 ≡ length (now (program .entry))) ⌝ }
+{
+    let mut at = indexed[0];
+    while at < program.len() {
+        if spots[slot] != 0 {
+            indexed[0] = at;
+            return;
+        }
+        at = index_one(program, at, spots);
+    }
+    indexed[0] = at;
+}
+
+// The body of the first function with that name, through a table that is filled as far as it is needed.
+pub fn look_up(program: &[u8], lo: u8, hi: u8, indexed: &mut [usize], spots: &mut [u16]) -> Spot
     requires { ⌜ Program (now program) ⌝ }
     requires { ⌜ length (now program) ≤ 65536 ⌝ }
-    requires { ⌜ Cache (now program) (now his) (now spots) ⌝ }
-    ensures { λ r. ⌜ Cached (now (program .entry)) lo hi r (now (his .exit)) (now (spots .exit)) ⌝ }
+    requires { ⌜ Cache (now program) (now indexed) (now spots) ⌝ }
+    ensures { λ r. ⌜ Cached (now (program .entry)) lo hi r (now (indexed .exit)) (now (spots .exit)) ⌝ }
 {
-    let low = lo as usize;
-    let place = spots[low] as usize;
-    if place != 0 {
-        if his[low] == hi {
-            return Spot::At(place);
+    let slot = slot_of(lo, hi);
+    index_to(program, slot, indexed, spots);
+    let body = spots[slot] as usize;
+    if body == 0 {
+        return Spot::Nowhere;
+    }
+    if program[body - 2] == lo {
+        if program[body - 1] == hi {
+            return Spot::At(body);
         }
     }
-    let found = find(program, lo, hi);
-    match found {
-        Spot::At(i) => {
-            his[low] = hi;
-            spots[low] = i as u16;
-            Spot::At(i)
-        }
-        Spot::Nowhere => Spot::Nowhere,
-    }
+    // another name came first
+    find(program, lo, hi)
 }

@@ -10,7 +10,7 @@ use lib.Dec.{leb}
 use borrow.Author.Tests.{le-leb, lt-leb}
 use Rattle.meaning.specs.Pointer.{partFrom, usedField, pointer}
 use Rattle.meaning.proofs.Truth.{is-true, is-false, see}
-use Rattle.building.proofs.Pouring.{drop-take}
+use Rattle.building.proofs.Sides.{drop-take}
 
 pub past-part : (place : ℕ) (part : List ℕ) → length part < place → [] ≡ partFrom place part
 unfolding partFrom

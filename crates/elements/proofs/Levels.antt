@@ -7,15 +7,15 @@ use native.Mathlib.Omega.{arith}
 use native.Mathlib.Nat.{suc-add}
 use native.Mathlib.Numerals.{add-one}
 use lib.ListN.{length, getD, drop}
-use lib.Dec.{eqb, leb}
+use lib.Dec.{T, eqb, leb}
 use borrow.Author.Tests.{leb-true, leb-false, eqb-true, eqb-false, ne-eqb}
-use Rattle.meaning.specs.Elements.{kind, body, elements, isKind}
+use Rattle.meaning.specs.Elements.{kind, body, elements, isKind, isSymbol}
 use Rattle.meaning.specs.Matching.{Terms, stop, symbol, bracket}
 use Rattle.meaning.proofs.Truth.{never, is-true, is-false, see}
 use Rattle.meaning.proofs.Searching.{Closing, closing-symbol, closing-open, closing-open₀, closing-close}
-use Rattle.elements.specs.Reading.{Balanced, ended, symbols, opening, closing, depthAfter, Level, TermEnd, term-at, Shutting, Shut}
+use Rattle.elements.specs.Reading.{Splits, Balanced, ended, symbols, opening, closing, depthAfter, Characters, no-more, one-more, Level, TermEnd, term-at, Shutting, Shut}
 use Rattle.elements.specs.declared.Found.the-variants.{At}
-use Rattle.elements.proofs.Places.{here, bare-whole, cut-here, head-here, head-symbol, head-open, head-close, symbol-kind, none-left, splits-here, open-here, open-splits, split-join}
+use Rattle.elements.proofs.Places.{here, bare-whole, cut-here, head-here, head-symbol, head-open, head-close, symbol-kind, symbol-here, none-left, splits-here, open-here, open-splits, split-join}
 
 pub closes : {d : ℕ} {es : List (List ℕ)} → Balanced d es → (n : ℕ) × Closing d n es
 unfolding Closing
@@ -50,6 +50,30 @@ behind-terms (bracket {xs} {es = ys} r q e) {es} (opening b) =
     shut-one : {d : ℕ} → (Balanced d (ys ++ es) → Balanced d es) → Balanced (suc d) ((5 ∷ []) ∷ (ys ++ es)) → Balanced d es
     shut-one f (closing c) = f c
     shut-one f (symbols t l c) = never (let w = symbol-kind _ t in omega arith)
+
+-- CHARACTERS
+
+module _ (s : List ℕ) (at : ℕ) (h : at < length s) (b : Level s at) (e : getD s at 0 ≡ 1) where
+  pub character-here : T (isSymbol (here s at h)) × Splits s at (here s at h ∷ []) (at + 2)
+  unfolding body
+  character-here =
+      let (t, p) = symbol-here s at h (b .balanced) (λ q. never (omega arith)) (λ q. never (omega arith)) in
+      let z : at + 1 + body (getD s at 0) ≡ at + 2 = rw e (omega arith) in
+      (t, rw z at p)
+
+  character-behind : Level s (at + 2)
+  character-behind =
+      let (t, p) = character-here in
+      record { depth = b .depth; fits = p .fits; balanced = behind-terms (symbol t stop) (rw (p .front) at (b .balanced)) }
+
+-- behind them the level is the same
+pub characters-level : {s : List ℕ} {stop to at i : ℕ} → Level s at → to ≤ length s → Characters s stop to at i → Level s i
+characters-level b l no-more = b
+characters-level {s} b l (one-more {i} c h e n) = character-behind s i (omega arith) (characters-level b l c) e
+
+pub characters-on : {s : List ℕ} {stop to at i : ℕ} → Characters s stop to at i → at ≤ i
+characters-on no-more = omega arith
+characters-on (one-more c h e n) = let l = characters-on c in omega arith
 
 -- THE BRACKET THAT SHUTS
 
@@ -215,6 +239,24 @@ pub seek-on : (s : List ℕ) (at i j : ℕ) → Seeking s at i j → 0 < j → S
 unfolding next
 seek-on s at i zero k h = never (omega arith)
 seek-on s at i (suc j) k h = turned s at i j k (seek-inside s at i (suc j) k h)
+
+-- over characters the depth stays
+pub seek-over : {s : List ℕ} {at i j stop to t : ℕ} → Seeking s at i j → 0 < j → Characters s stop to i t → Seeking s at t j
+unfolding depthAfter body
+seek-over k h no-more = k
+seek-over {s} {at} {j = j} k h (one-more {i} c l e n) =
+    let z : i + 1 + 1 ≡ i + 2 = omega arith in
+    rw z at (rw e at (seek-on s at i j (seek-over k h c) h))
+
+-- at a closing bracket it falls
+pub seek-shut : {s : List ℕ} {at i j : ℕ} → Seeking s at i j → 0 < j → getD s i 0 ≡ 5 → Seeking s at (i + 1) (j - 1)
+unfolding depthAfter body
+seek-shut {s} {at} {i} {j} k h e =
+    let z : i + 1 + 0 ≡ i + 1 = omega arith in
+    rw z at (rw e at (seek-on s at i j k h))
+
+pub seek-level : {s : List ℕ} {at i j : ℕ} → Seeking s at i j → Level s i
+seek-level {j = j} k = record { depth = j + k .depth; fits = k .fits; balanced = k .balanced }
 
 -- A BRACKETED TERM
 

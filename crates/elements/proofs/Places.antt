@@ -6,18 +6,18 @@ use Prim.Native.Nat.{ℕ, suc, _+_, _-_, _^_, _≤_, _<_}
 use native.Mathlib.Omega.{arith}
 use lib.ListN.{length, getD, take, drop, length-append, length-take, length-drop, drop-of-length-le}
 use lib.Dec.{T, leb}
-use borrow.Author.Tests.{leb-true}
+use borrow.Author.Tests.{leb-true, leb-false}
 use Rattle.meaning.specs.Elements.{kind, body, cut, elements, join, isSymbol}
 use Rattle.meaning.specs.Goodness.{span}
 use Rattle.meaning.specs.Matching.{Terms, symbol, bracket}
-use Rattle.meaning.proofs.Truth.{never, and-left, and-right, T-true}
+use Rattle.meaning.proofs.Truth.{never, and-left, and-right, T-true, is-true, is-false, see}
 use Rattle.meaning.proofs.Cutting.{cut-at, join-cut}
 use Rattle.meaning.proofs.Leading.{join-append}
 use Rattle.elements.specs.declared.Element.{Element}
 use Rattle.elements.specs.declared.Reading.the-variants.{Got, Bad}
 use Rattle.elements.specs.declared.Found.the-variants.{Nothing}
 use Rattle.elements.specs.Bytes.{kindOf, numberOf, digits, bytesOf}
-use Rattle.elements.specs.Reading.{Splits, ReadAt, bad, got, Balanced, symbols, opening, closing, SymbolEnd, no-symbol, TermEnd, no-term}
+use Rattle.elements.specs.Reading.{Splits, ReadAt, bad, got, Balanced, symbols, opening, closing, SymbolEnd, no-symbol, TermEnd, no-term, ProperAt}
 
 -- an element without a body has the number 0
 pub no-number : (k j n : ℕ) → k ≡ j → body j ≡ 0 → n < 256 ^ body k → 0 ≡ n
@@ -84,6 +84,21 @@ module _ (s : List ℕ) (at : ℕ) (h : at < length s) where
       let e : bytesOf x ≡ here = rw (ek, en, ← ew, d) in
       let r : length here ≡ suc (body (getD s at 0)) = simp (length-take, length-drop) (omega arith) in
       got {x = x} {c = record { at = at + 1 + w }} (rw (ek, en, ← ew) b) (omega arith) (rw (e, ew) (splits-here r))
+
+-- where a whole element stands
+module _ {s : List ℕ} {at : ℕ} (p : ProperAt s at) where
+  pub proper-inside : at < length s
+  proper-inside =
+      elim (see (leb (length s) at)) [
+        | is-true z ↦ never (cc (p .is, none-left s at (leb-true _ _ z)))
+        | is-false z ↦ leb-false _ _ z
+      ]
+
+  pub proper-splits : Splits s at (p .e ∷ []) (at + 1 + body (getD s at 0))
+  proper-splits =
+      let h = proper-inside in
+      let i : here s at h ≡ p .e = cc (cut-here s at h, p .is) in
+      rw i at (splits-here s at h (rw i (p .whole .long ∙ ap (λ (x : List ℕ). suc (body (kind x))) (sym i) ∙ rw (kind-here s at h))))
 
 -- SYMBOLS AND TERMS, where an argument is balanced
 

@@ -3,7 +3,7 @@ use mathlib.Core.Path.{_≡_}
 use mathlib.Core.Bool.{true, cond}
 use mathlib.Core.List.{List, [], _∷_, _++_}
 use Prim.Native.Nat.{ℕ, suc, _+_, _-_, _^_, _≤_, _<_}
-use lib.ListN.{length, drop}
+use lib.ListN.{length, getD, take, drop}
 use lib.Dec.{T, eqb}
 use Rattle.meaning.specs.Elements.{kind, body, elements, isSymbol}
 use Rattle.meaning.specs.Goodness.{span}
@@ -32,6 +32,11 @@ pub data ReadAt (s : List ℕ) (at : ℕ) : Reading → Type 0 where
   over : length s ≤ at → ReadAt s at End
   bad : at < length s → ((e : List ℕ) (es : List (List ℕ)) → elements (drop at s) ≡ e ∷ es → Whole1 e → ⊥) → ReadAt s at Bad
   got : {x : Element} {c : Cursor} → numberOf x < 256 ^ body (kindOf x) → at < c .at → Splits s at (bytesOf x ∷ []) (c .at) → ReadAt s at (Got x c)
+
+-- an element passed over: its kind, and the place behind it
+pub record PassedOver (s : List ℕ) (at k next : ℕ) : Type 0 where
+  pub kind-is : k ≡ getD s at 0
+  pub next-is : next ≡ at + 1 + body (getD s at 0)
 
 -- elements of known kinds with their whole bodies
 pub data Proper : List (List ℕ) → Type 0 where
@@ -63,6 +68,11 @@ pub data TermEnd (s : List ℕ) (at : ℕ) : Found → Type 0 where
 unfoldable pub depthAfter : ℕ → ℕ → ℕ
 depthAfter k j = cond (eqb k 4) (j + 1) (cond (eqb k 5) (j - 1) j)
 
+-- characters from `at` on that begin before `to`, none with the code `stop`
+pub data Characters (s : List ℕ) (stop to at : ℕ) : ℕ → Type 0 where
+  no-more : Characters s stop to at at
+  one-more : {i : ℕ} → Characters s stop to at i → i < to → getD s i 0 ≡ 1 → (getD s (i + 1) 0 ≡ stop → ⊥) → Characters s stop to at (i + 2)
+
 -- a place behind an opening bracket, and the one behind its closing bracket
 pub record Shutting (s : List ℕ) (at : ℕ) : Type 0 where
   pub depth : ℕ
@@ -87,3 +97,10 @@ pub record ProperAt (s : List ℕ) (at : ℕ) : Type 0 where
 pub data Shared (a b : List ℕ) (at : ℕ) : Found → Type 0 where
   both : {e : List ℕ} {t : ℕ} → at < t → Splits a at (e ∷ []) t → Splits b at (e ∷ []) t → Shared a b at (At t)
   differ : (elements (drop at a) ≡ elements (drop at b) → ⊥) → Shared a b at Nothing
+
+-- two values of one length are the same up to `at`, and whole from there on
+pub record Comparing (a b : List ℕ) (at : ℕ) : Type 0 where
+  pub fits : at ≤ length a
+  pub long : length a ≡ length b
+  pub proper : Proper (elements (drop at a))
+  pub same : take at a ≡ take at b

@@ -1,10 +1,10 @@
 // Elements read off bytes, terms passed over, values compared.
 ghost use mathlib.Core.Path.{_≡_};
-ghost use Prim.Native.Nat.{_+_, _^_, _<_, _≤_};
+ghost use Prim.Native.Nat.{_+_, _-_, _^_, _<_, _≤_};
 ghost use lib.ListN.{length, getD, take, drop};
 ghost use Rattle.meaning.specs.Elements.{body, elements};
 ghost use Rattle.elements.specs.Bytes.{kindOf, numberOf, digits, bytesOf, Told};
-ghost use Rattle.elements.specs.Reading.{ReadAt, Proper, Level, depthAfter, Shutting, Shut, SymbolEnd, TermEnd, ProperAt, Shared};
+ghost use Rattle.elements.specs.Reading.{ReadAt, Proper, PassedOver, Level, depthAfter, Characters, Shutting, Shut, SymbolEnd, TermEnd, ProperAt, Shared, Comparing};
 
 // An element: fifteen kinds, with the number in the body where there is one.
 pub enum Element {
@@ -28,6 +28,12 @@ pub enum Element {
 // A place between elements.
 pub struct Cursor {
     pub at: usize,
+}
+
+// An element passed over: its kind, and the moved cursor.
+pub struct Passed {
+    pub kind: u8,
+    pub next: Cursor,
 }
 
 pub enum Reading {
@@ -210,6 +216,21 @@ impl Cursor {
             Cursor { at: at + 1 + width },
         )
     }
+
+    // Passes over one whole element by its kind alone, and hands the moved cursor back.
+    pub fn pass(self, s: &[u8]) -> Passed
+        requires { ⌜ ProperAt (now s) (self .at) ⌝ }
+        ensures { λ r. ⌜ PassedOver (now (s .entry)) (self .at) (r .kind) (r .next .at) ⌝ }
+    {
+        let at = self.at;
+        let kind = s[at];
+        Passed {
+            kind,
+            next: Cursor {
+                at: at + 1 + kinds::body_of(kind),
+            },
+        }
+    }
 }
 
 // Past the symbol at a place.
@@ -241,6 +262,24 @@ fn depth_after(k: u8, depth: usize) -> usize
     depth
 }
 
+// Past the characters that begin before `to`, up to one with the code `stop`, if that is a byte. Most terms are characters: their loop looks no length up.
+pub fn characters_end(s: &[u8], at: usize, stop: u16, to: usize) -> usize
+    requires { ⌜ Level (now s) at × (to ≤ length (now s)) ⌝ }
+    ensures { λ r. ⌜ Characters (now (s .entry)) stop to at r ⌝ }
+{
+    let mut i = at;
+    while i < to {
+        if s[i] != 1 {
+            return i;
+        }
+        if s[i + 1] as u16 == stop {
+            return i;
+        }
+        i = i + 2;
+    }
+    i
+}
+
 // Past the bracket that closes the one that was opened just before a place.
 fn shut_end(s: &[u8], at: usize) -> usize
     requires { ⌜ Shutting (now s) at ⌝ }
@@ -249,9 +288,16 @@ fn shut_end(s: &[u8], at: usize) -> usize
     let mut i = at;
     let mut depth: usize = 1;
     while 0 < depth {
+        i = characters_end(s, i, 256, s.len());
         let k = s[i];
-        depth = depth_after(k, depth);
-        i = i + 1 + kinds::body_of(k);
+        // A closing bracket by itself: what stands behind it is read without waiting for a look-up.
+        if k == 5 {
+            depth = depth - 1;
+            i = i + 1;
+        } else {
+            depth = depth_after(k, depth);
+            i = i + 1 + kinds::body_of(k);
+        }
     }
     i
 }
@@ -285,12 +331,49 @@ fn same(x: Element, y: Element) -> bool
     }
 }
 
+// Whether the bytes x[i..j] stand in y from `at` on.
+pub fn stands_at(x: &[u8], i: usize, j: usize, y: &[u8], at: usize) -> bool
+    requires { ⌜ (i ≤ j) × (j ≤ length (now x)) × (at ≤ length (now y)) ⌝ }
+    ensures { λ r. ⌜ Told r (take (j - i) (drop i (now (x .entry))) ≡ take (j - i) (drop at (now (y .entry)))) ⌝ }
+{
+    let n = j - i;
+    if y.len() - at < n {
+        return false;
+    }
+    let mut k: usize = 0;
+    while k < n {
+        if x[i + k] != y[at + k] {
+            return false;
+        }
+        k = k + 1;
+    }
+    true
+}
+
+// Past the element a[at..end], if it stands in both there: byte by byte.
+fn shared_bytes(a: &[u8], b: &[u8], at: usize, end: usize) -> Found
+    requires { ⌜ ProperAt (now a) at × (end ≡ at + 1 + body (getD (now a) at 0)) × (at ≤ length (now b)) ⌝ }
+    ensures { λ r. ⌜ Shared (now (a .entry)) (now (b .entry)) at r ⌝ }
+{
+    if stands_at(a, at, end, b, at) {
+        Found::At(end)
+    } else {
+        Found::Nothing
+    }
+}
+
 // Past the element at a place, if it stands in both there.
 fn shared_end(a: &[u8], b: &[u8], at: usize) -> Found
-    requires { ⌜ ProperAt (now a) at ⌝ }
+    requires { ⌜ ProperAt (now a) at × (at ≤ length (now b)) ⌝ }
     ensures { λ r. ⌜ Shared (now (a .entry)) (now (b .entry)) at r ⌝ }
 {
     let c = Cursor { at };
+    let passed = c.pass(a);
+    // Most elements are symbols: no element need be made of them.
+    if passed.kind <= 3 {
+        let next = passed.next;
+        return shared_bytes(a, b, at, next.at);
+    }
     match c.read(a) {
         Reading::Got(x, next) => match c.read(b) {
             Reading::Got(y, _) => {
@@ -308,6 +391,27 @@ fn shared_end(a: &[u8], b: &[u8], at: usize) -> Found
     }
 }
 
+// Past the characters at a place that stand in both there.
+fn shared_characters(a: &[u8], b: &[u8], at: usize) -> usize
+    requires { ⌜ Comparing (now a) (now b) at ⌝ }
+    ensures { λ r. ⌜ Comparing (now (a .entry)) (now (b .entry)) r × (at ≤ r) ⌝ }
+{
+    let mut i = at;
+    while i < a.len() {
+        if a[i] != 1 {
+            return i;
+        }
+        if b[i] != 1 {
+            return i;
+        }
+        if a[i + 1] != b[i + 1] {
+            return i;
+        }
+        i = i + 2;
+    }
+    i
+}
+
 // Whether two values are equal: element by element.
 pub fn equal_values(a: &[u8], b: &[u8]) -> bool
     requires { ⌜ Proper (elements (now a)) ⌝ }
@@ -316,11 +420,11 @@ pub fn equal_values(a: &[u8], b: &[u8]) -> bool
     if a.len() != b.len() {
         return false;
     }
-    let mut at = 0;
+    let mut at = shared_characters(a, b, 0);
     while at < a.len() {
         match shared_end(a, b, at) {
             Found::At(next) => {
-                at = next;
+                at = shared_characters(a, b, next);
             }
             Found::Nothing => {
                 return false;

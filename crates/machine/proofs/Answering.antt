@@ -13,7 +13,7 @@ use Rattle.meaning.specs.Elements.{elements}
 use Rattle.meaning.specs.Goodness.{badProgram, badField}
 use Rattle.meaning.specs.Machine.{longest, sizes, Result, result, run, closing, Answer, answer, machine}
 use Rattle.meaning.proofs.Truth.{never, and-left, and-right}
-use Rattle.meaning.proofs.Programs.{Functions, program-functions, solid-whole}
+use Rattle.meaning.proofs.Programs.{Functions, program-functions}
 use Rattle.meaning.proofs.Steps.{field-is-good}
 use Rattle.meaning.proofs.Answers.{sizes-used}
 use Rattle.building.specs.Build.{sideOf}
@@ -101,7 +101,9 @@ module _ (p f : List ℕ) (used : ℕ) (s : List ℕ) (z : Sized p f used s) whe
       record {
         program = good-program p (z .program);
         functions = subst Functions (sym (rest-all p)) (program-functions p (z .program));
-        field = record { fits = fit .used-in; whole = solid-whole (g .solid); solid = g .solid; balanced = g .balanced };
+        fits = fit .used-in;
+        solid = g .solid;
+        balanced = g .balanced;
         program-short = fit .program;
         field-short = fit .field;
         scratch-long = omega arith;

@@ -1,283 +1,159 @@
 -- The loop: from one step to the next.
 use mathlib.Core.Path.{_≡_, refl, sym, _∙_, ap, subst}
-use mathlib.Core.Bool.{Bool, true, false, _&&_}
+use mathlib.Core.Bool.{Bool, true, false}
 use mathlib.Core.Option.{some}
 use mathlib.Core.List.{List, [], _∷_, _++_, append-assoc, append-nil}
 use Prim.Native.Nat.{ℕ, zero, suc, _+_, _*_, _-_, _≤_, _<_}
 use native.Mathlib.Omega.{arith}
-use native.Mathlib.Numerals.{add-one, sub-one}
-use lib.ListN.{length, getD, take, drop, replicate}
-use lib.Seq.{length-take-le, drop-length}
-use Rattle.meaning.specs.Elements.{Element, kind, body, cut, join, size, isKind}
-use Rattle.meaning.proofs.Truth.{is-true, is-false, see, or-right}
-use Rattle.meaning.proofs.Truth.{never}
-use Rattle.meaning.proofs.Cutting.{Whole}
-use Rattle.meaning.proofs.Leading.{holds-append, size-append, leading-left, leading-here, leading-closed}
-use Rattle.meaning.specs.Machine.{before, behind, holds, innermost, Lead, nothing, lead, leading, stuck, onward, step, Result, run, closing, answer}
-use Rattle.meaning.proofs.Balance.{brackets, call-first, fours}
-use Rattle.meaning.proofs.Programs.{Functions}
+use native.Mathlib.Numerals.{add-one}
+use lib.ListN.{length, getD, take, drop, replicate, drop-of-length-le, length-drop}
+use lib.Seq.{paste, length-paste, length-take-le, drop-length}
+use Rattle.meaning.specs.Elements.{Element, kind, cut, join, size, isKind}
+use Rattle.meaning.specs.Machine.{holds, stuck, onward, step, Result, run, closing, answer}
+use Rattle.meaning.proofs.Truth.{never, or-right}
+use Rattle.meaning.proofs.Cutting.{Whole, join-cut}
+use Rattle.meaning.proofs.Leading.{holds-append}
+use Rattle.meaning.proofs.Programs.{Functions, Solid, solid-whole}
+use Rattle.meaning.proofs.Balance.{brackets}
 use Rattle.meaning.proofs.Words.{StepIs}
 use Rattle.meaning.proofs.Steps.{step-good, step-is, stuck-code}
-use Rattle.meaning.proofs.Runs.{some-leading, run-done, run-paused, run-stuck, run-onward}
-use Rattle.scanning.specs.State.{stack}
-use Rattle.scanning.specs.State.{fieldOf, Good, Opens, none-open, one-open, Scanned, Found}
-use Rattle.scanning.proofs.Scan.{join-field, size-field, Met, met}
+use Rattle.meaning.proofs.Runs.{run-done, run-paused, run-stuck, run-onward}
+use Rattle.scanning.specs.State.{fieldOf, fieldAt, Good, stack, marksOf, none-open, Standing, Reached, Advanced}
+use Rattle.scanning.proofs.Marks.{size-nil}
+use Rattle.scanning.proofs.Gap.{brought-up, brought-down}
 use Rattle.choosing.specs.Choose.{restOf}
-use Rattle.building.proofs.Pouring.{size-nil, size-cons}
-use Rattle.choosing.proofs.Rest.{whole-left, whole-right, whole-one, join-whole}
-use Rattle.choosing.proofs.Fill.{before-at, behind-at}
-use Rattle.stepping.specs.Stepping.{Term, Under, Stepped, stays, goes}
+use Rattle.stepping.specs.Stepping.{Under, Placed, Stepped, stays, goes}
+use Rattle.stepping.proofs.Leads.{last}
 use Rattle.machine.specs.Running.{Ended, Between}
 use Rattle.machine.proofs.Answering.{cleared}
 
--- A BALANCED FIELD WITHOUT > HAS NO <
-no-close : (es : List Element) → brackets [] es ≡ some [] → holds 7 es ≡ false → holds 6 es ≡ false
-no-close es h n =
-    elim (see (holds 6 es)) [
-      | is-false z ↦ z
-      | is-true z ↦ go (leading es) refl z
-    ]
-  where
-    go : (l : Lead) → leading es ≡ l → holds 6 es ≡ true → holds 6 es ≡ false
-    go nothing e z = absurd (some-leading es [] h z e)
-    go (lead a c x b) e z = never (cc (leading-closed es e))
+-- THE START
+begun : (f f′ : List ℕ) (used lo hi : ℕ) → used ≤ length f → lo ≡ 0 → hi ≡ length f - used → f′ ≡ paste f hi (drop 0 f) used → fieldAt f′ lo hi ≡ fieldOf f used
+begun f f′ used lo hi h e0 eh e = rw (e0, eh) (brought-up f f′ used h (rw eh at e))
 
-opens-no7 : {zs : List Element} {st : List ℕ} → Opens zs st → holds 7 zs ≡ false
-opens-no7 (none-open n6 n7) = n7
-opens-no7 (one-open {xs} {zs} c ys o k n6 n7 a q) =
-    rw q (holds-append 7 xs (c ∷ ys) ∙ rw (opens-no7 o) (unfold holds in (rw (k, n7))))
+begun-long : (f f′ : List ℕ) (used hi : ℕ) → used ≤ length f → hi ≡ length f - used → f′ ≡ paste f hi (drop 0 f) used → length f′ ≡ length f
+begun-long f f′ used hi h eh e = ap length e ∙ length-paste f hi (drop 0 f) used (omega arith) (omega (arith, length-drop 0 f))
 
-empty-size : (es : List Element) → Whole es → size es ≡ 0 → es ≡ []
-empty-size [] w h = refl
-empty-size (e ∷ es) w h = never (omega (arith, size-cons e es, whole-one e es (e ∷ es) refl w))
+pub same-run : (p f f′ : List ℕ) (used lo hi budget : ℕ) → used ≤ length f → lo ≡ 0 → hi ≡ length f - used → f′ ≡ paste f hi (drop 0 f) used
+    → run (restOf p 0) (length f′) budget 0 (fieldAt f′ lo hi) ≡ run (restOf p 0) (length f) budget 0 (fieldOf f used)
+same-run p f f′ used lo hi budget h e0 eh e = rw (begun f f′ used lo hi h e0 eh e, begun-long f f′ used hi h eh e)
 
--- nothing is left to read
-module _ (f : List ℕ) (used : ℕ) (g : Good f used) (calls : List ℕ) (at depth : ℕ) (n : Found f used calls false at depth) where
-  all-read : fieldOf f used ≡ n .scanned .pre
-  all-read =
-      let s = n .scanned in
-      let e = n .no refl in
-      let z : size (s .rest) ≡ 0 = omega (arith, size-append (s .pre) (s .rest), ap size (s .parts), size-field f used (g .fits), s .place) in
-      let r : s .rest ≡ [] = empty-size (s .rest) (whole-right (s .pre) (s .rest) (fieldOf f used) (s .parts) (g .whole)) z in
-      s .parts ∙ ap {B = List Element} (λ l. s .pre ++ l) r ∙ append-nil (s .pre)
-
-  pub no-call : holds 6 (fieldOf f used) ≡ false
-  no-call = no-close (fieldOf f used) (g .balanced) (ap (holds 7) all-read ∙ opens-no7 (n .scanned .opened))
-
--- THE LEADING TERM IS FOUND
-holds-mid : (k : ℕ) (xs : List Element) (g : Element) (more : List Element) → isKind k g ≡ true → holds k (xs ++ (g ∷ more)) ≡ true
-unfolding holds
-holds-mid k xs g more h = holds-append k xs (g ∷ more) ∙ rw h (or-right (holds k xs))
-
-call-there : (c : Element) (zs : List Element) → isKind 6 c ≡ true → isKind 7 c ≡ false → holds 6 (before 7 (c ∷ zs)) ≡ true
-unfolding holds before
-call-there c zs c6 c7 = rw (c7, before) (rw c6)
-
-inner-there : (c : Element) (zs ys : List Element) → isKind 6 c ≡ true → holds 7 zs ≡ true → before 7 zs ≡ ys → holds 6 ys ≡ false → (isKind 6 c && innermost zs) ≡ true
-unfolding innermost
-inner-there c zs ys c6 i7 b7 m6 = rw (c6, i7, b7, m6)
-
-leads : (xs ys more : List Element) (c g : Element) → holds 7 xs ≡ false → kind c ≡ 6 → holds 6 ys ≡ false → holds 7 ys ≡ false → kind g ≡ 7
-    → leading (xs ++ (c ∷ (ys ++ (g ∷ more)))) ≡ lead xs c ys more
-leads xs ys more c g n7 kc m6 m7 kg =
-    let k7 : isKind 7 g ≡ true = rw kg in
-    let b7 : before 7 (ys ++ (g ∷ more)) ≡ ys = before-at 7 ys g more m7 k7 in
-    let h7 : behind 7 (ys ++ (g ∷ more)) ≡ more = behind-at 7 ys g more m7 k7 in
-    let i7 : holds 7 (ys ++ (g ∷ more)) ≡ true = holds-mid 7 ys g more k7 in
-    let c6 : isKind 6 c ≡ true = rw kc in
-    let c7 : isKind 7 c ≡ false = rw kc in
-    let inn : (isKind 6 c && innermost (ys ++ (g ∷ more))) ≡ true = inner-there c (ys ++ (g ∷ more)) ys c6 i7 b7 m6 in
-    let l : leading (c ∷ (ys ++ (g ∷ more))) ≡ lead [] c ys more = leading-here c (ys ++ (g ∷ more)) inn ∙ rw (b7, h7) in
-    let six : holds 6 (before 7 (c ∷ (ys ++ (g ∷ more)))) ≡ true = call-there c (ys ++ (g ∷ more)) c6 c7 in
-    leading-left xs (c ∷ (ys ++ (g ∷ more))) n7 six l ∙ rw append-nil
-
-pub record TermAt (f : List ℕ) (used : ℕ) (calls : List ℕ) (at depth : ℕ) : Type 0 where
-  pub above : 0 < depth
-  pub term : Term f used (getD calls (depth - 1) 0) at
-  pub under : Opens (term .a) (stack (depth - 1) calls)
-  pub low : 3 * (depth - 1) ≤ getD calls (depth - 1) 0
-  pub short : getD calls (depth - 1) 0 ≤ used
-
-module _ (f : List ℕ) (used : ℕ) (g : Good f used) (calls : List ℕ) (at depth : ℕ) (n : Found f used calls true at depth) where
-  s : Scanned f used at depth calls
-  s = n .scanned
-
-  m : Met f at (s .pre) (s .rest)
-  m = met f used at g (s .pre) (s .rest) (s .parts) (s .place) (n .yes refl .0)
-
-  kg : kind (m .e) ≡ 7
-  kg = m .sort ∙ n .yes refl .1
-
-  es-is : fieldOf f used ≡ s .pre ++ (m .e ∷ m .more)
-  es-is = s .parts ∙ ap {B = List Element} (λ l. s .pre ++ l) (m .is)
-
-  not-none : holds 6 (s .pre) ≡ false → holds 7 (s .pre) ≡ false → ⊥
-  unfolding fours
-  not-none n6 n7 =
-      let k7 : isKind 7 (m .e) ≡ true = rw kg in
-      let h7 : holds 7 (fieldOf f used) ≡ true = ap (holds 7) es-is ∙ holds-mid 7 (s .pre) (m .e) (m .more) k7 in
-      let q = call-first (fieldOf f used) 0 [] (g .balanced) h7 in
-      let b : before 7 (fieldOf f used) ≡ s .pre = ap (before 7) es-is ∙ before-at 7 (s .pre) (m .e) (m .more) n7 k7 in
-      never (cc (ap (holds 6) b))
-
-  three-deep : {zs : List Element} {st : List ℕ} → Opens zs st → Whole zs → 3 * length st ≤ size zs
-  three-deep (none-open n6 n7) w = omega arith
-  three-deep (one-open {xs} {zs} {at = i} {st} c ys o k n6 n7 a q) w =
-      let d = three-deep o (whole-left xs (c ∷ ys) zs q w) in
-      let l : length c ≡ 3 = whole-one c ys (c ∷ ys) refl (whole-right xs (c ∷ ys) zs q w) ∙ rw k (unfold body in refl) in
-      omega (arith, ap size q, size-append xs (c ∷ ys), size-cons c ys)
-
-  stack-long : (d : ℕ) → length (stack d calls) ≡ d
-  unfolding stack
-  stack-long zero = refl
-  stack-long (suc d) = ap suc (stack-long d)
-
-  pick : (d : ℕ) {i : ℕ} {st : List ℕ} → i ∷ st ≡ stack d calls → (0 < d) × (i ≡ getD calls (d - 1) 0) × (st ≡ stack (d - 1) calls)
-  unfolding stack
-  pick zero e = never (cc)
-  pick (suc d) {i} {st} e = (omega arith, rw sub-one (let q : i ≡ getD calls d 0 = cc in q), rw sub-one (let q : st ≡ stack d calls = cc in q))
-
-  pub term-at : TermAt f used calls at depth
-  term-at = go (s .opened) refl refl
-    where
-      go : {zs : List Element} {st : List ℕ} → Opens zs st → zs ≡ s .pre → st ≡ stack depth calls → TermAt f used calls at depth
-      go (none-open n6 n7) ez es = absurd (not-none (ap (holds 6) (sym ez) ∙ n6) (ap (holds 7) (sym ez) ∙ n7))
-      go (one-open {xs} {zs} {at = i} {st} c ys o k n6 n7 a q) ez es =
-          let (d0, ei, et) = pick depth es in
-          let pa : fieldOf f used ≡ xs ++ (c ∷ (ys ++ (m .e ∷ m .more))) = es-is ∙ ap (λ (l : List Element). l ++ (m .e ∷ m .more)) (sym ez ∙ q) ∙ append-assoc xs (c ∷ ys) (m .e ∷ m .more) in
-          let wz : Whole zs = whole-left zs (m .e ∷ m .more) (fieldOf f used) (es-is ∙ ap (λ (l : List Element). l ++ (m .e ∷ m .more)) (sym ez)) (g .whole) in
-          let wx : Whole xs = whole-left xs (c ∷ ys) zs q wz in
-          let lc : length c ≡ 3 = whole-one c ys (c ∷ ys) refl (whole-right xs (c ∷ ys) zs q wz) ∙ rw k (unfold body in refl) in
-          let sz : at ≡ size xs + 3 + size ys = omega (arith, s .place, ap size ez, ap size q, size-append xs (c ∷ ys), size-cons c ys) in
-          let d3 = three-deep o wx in
-          let ls : length st ≡ depth - 1 = ap length et ∙ stack-long (depth - 1) in
-          let y = n .yes refl .0 in
-          record {
-            above = d0;
-            term = record {
-              a = xs;
-              c = c;
-              x = ys;
-              g = m .e;
-              b = m .more;
-              parts = pa;
-              led = ap leading pa ∙ leads xs ys (m .more) c (m .e) (opens-no7 o) k n6 n7 kg;
-              kc = k;
-              kg = kg;
-              from-is = sym ei ∙ a;
-              end-is = rw (← ei, a) sz;
-            };
-            under = rw et at o;
-            low = omega arith;
-            short = omega arith;
-          }
-
-  pub some-call : holds 6 (fieldOf f used) ≡ true
-  some-call =
-      let t = term-at .term in
-      let k6 : isKind 6 (t .c) ≡ true = rw (t .kc) in
-      ap (holds 6) (t .parts) ∙ holds-mid 6 (t .a) (t .c) _ k6
-
--- THE LOOP
+-- STEP AFTER STEP
 module _ (p : List ℕ) (room budget : ℕ) (whole : Result) where
-  pub between-start : (f calls : List ℕ) (used : ℕ) → Good f used → length f ≡ room → whole ≡ run (restOf p 0) room budget 0 (fieldOf f used) → Between p room budget whole f calls used 0 0 0
-  unfolding stack holds
-  between-start f calls used g l e =
+  pub between-start : (f f′ calls : List ℕ) (used : ℕ) {lo hi read depth top : ℕ} → used ≤ length f → Solid (fieldOf f used) → brackets [] (fieldOf f used) ≡ some [] → length f′ ≡ room
+      → lo ≡ 0 → hi ≡ length f - used → read ≡ hi → depth ≡ 0 → top ≡ length calls → f′ ≡ paste f hi (drop 0 f) used
+      → whole ≡ run (restOf p 0) room budget 0 (fieldAt f′ lo hi) → Between p room budget whole f′ calls lo hi read depth top 0
+  unfolding stack holds marksOf
+  between-start f f′ calls used {lo} {hi} fit sol bal l e0 eh er ed et e so =
       let z : budget - 0 ≡ budget = omega arith in
-      record {
-        good = g;
-        scanned = record { pre = []; rest = fieldOf f used; parts = refl; place = size-nil; deep = omega arith; opened = none-open refl refl };
+      let i = begun f f′ used lo hi fit e0 eh e in
+      let lf = begun-long f f′ used hi fit eh e in
+      rw (er, ed, et) (record {
+        good = record { gap = omega arith; fits = omega arith; whole = rw i (solid-whole sol); solid = rw i sol; balanced = rw i bal };
+        standing = record {
+          front = [];
+          known = [];
+          unread = fieldAt f′ lo hi;
+          parts = refl;
+          low = size-nil ∙ sym e0;
+          up = omega (arith, size-nil);
+          opened = none-open refl refl;
+          deep = omega arith;
+          marked = drop-of-length-le calls {i = length calls} (omega arith);
+          below = omega arith;
+          inside = omega arith;
+        };
         long = l;
         left = omega arith;
-        so = rw z e;
-      }
+        so = rw z so;
+      })
 
-  module _ (f calls : List ℕ) (used scan depth steps : ℕ) (i : Between p room budget whole f calls used scan depth steps) where
-    pub end-done : (calls′ : List ℕ) (x : Bool) (at d : ℕ) → x ≡ false → Found f used calls′ x at d → Ended whole f 0 steps used 0
-    end-done calls′ x at d z n =
-        let n′ : Found f used calls′ false at d = subst (λ (y : Bool). Found f used calls′ y at d) z n in
-        record {
-          es = fieldOf f used;
-          so = i .so ∙ run-done (restOf p 0) room (budget - steps) steps (fieldOf f used) (no-call f used (i .good) calls′ at d n′);
-          fits = i .good .fits;
-          bytes = sym (join-field f used);
-          small = omega arith;
-        }
+  module _ (f : List ℕ) (calls : List ℕ) (lo hi read depth top steps : ℕ) (i : Between p room budget whole f calls lo hi read depth top steps)
+      (f1 calls1 : List ℕ) (here : Bool) (at lo1 hi1 read1 depth1 top1 : ℕ) (v : Advanced f lo hi f1 lo1 hi1 calls1 here at read1 depth1 top1) where
+    so-now : whole ≡ run (restOf p 0) room (budget - steps) steps (fieldAt f1 lo1 hi1)
+    so-now = rw (v .same) (i .so)
 
-    module _ (calls′ : List ℕ) (x : Bool) (at d : ℕ) (z : x ≡ true) (n : Found f used calls′ x at d) where
-      n′ : Found f used calls′ true at d
-      n′ = subst (λ (y : Bool). Found f used calls′ y at d) z n
+    pub end-done : here ≡ false → {c s q l h : ℕ} → c ≡ 0 → s ≡ steps → q ≡ 0 → l ≡ lo1 → h ≡ hi1 → Ended whole f1 c s q l h
+    end-done z ec es eq el eh =
+        rw (ec, es, eq, el, eh) (record { gap = v .good .gap; fits = v .good .fits; so = so-now ∙ run-done (restOf p 0) room (budget - steps) steps (fieldAt f1 lo1 hi1) (v .next .no z); small = omega arith })
 
-      pub lead-at : TermAt f used calls′ at d
-      lead-at = term-at f used (i .good) calls′ at d n′
+    module _ (z : here ≡ true) where
+      pub reached : Reached f1 lo1 hi1 at read1 depth1 top1 calls1
+      reached = v .next .yes z
 
-      pub end-paused : steps ≡ budget → Ended whole f 1 steps used 0
-      end-paused e =
+      some-call : holds 6 (fieldAt f1 lo1 hi1) ≡ true
+      unfolding holds
+      some-call =
+          let r = reached in
+          let l = last f1 lo1 hi1 at read1 depth1 top1 calls1 (v .good) r (v .shuts z) in
+          let k6 : isKind 6 (l .c) ≡ true = rw (l .kc) in
+          let h : holds 6 (r .front) ≡ true = ap (holds 6) (l .is) ∙ holds-append 6 (l .xs) (l .c ∷ l .ys) ∙ rw k6 (or-right (holds 6 (l .xs))) in
+          ap (holds 6) (r .parts) ∙ holds-append 6 (r .front) _ ∙ rw h
+
+      pub end-paused : steps ≡ budget → {c s q l h : ℕ} → c ≡ 1 → s ≡ steps → q ≡ 0 → l ≡ lo1 → h ≡ hi1 → Ended whole f1 c s q l h
+      end-paused e ec es eq el eh =
           let y : budget - steps ≡ 0 = omega arith in
-          record {
-            es = fieldOf f used;
-            so = i .so ∙ rw y (run-paused (restOf p 0) room steps (fieldOf f used) (some-call f used (i .good) calls′ at d n′));
-            fits = i .good .fits;
-            bytes = sym (join-field f used);
-            small = omega arith;
-          }
+          rw (ec, es, eq, el, eh) (record { gap = v .good .gap; fits = v .good .fits; so = so-now ∙ rw y (run-paused (restOf p 0) room steps (fieldAt f1 lo1 hi1) some-call); small = omega arith })
 
-      pub call-in : getD calls′ (d - 1) 0 ≤ used
-      call-in = lead-at .short
+      -- the term is gathered, and the step made
+      module _ (more : steps ≡ budget → ⊥) (f2 : List ℕ) (from hi2 : ℕ) (good2 : Good f2 (from + 3) hi2) (same2 : fieldAt f2 (from + 3) hi2 ≡ fieldAt f1 lo1 hi1) (long2 : length f2 ≡ room)
+          (f3 calls3 : List ℕ) (code hi3 top3 : ℕ) (t : Stepped f2 from read1 (depth1 - 1) (step (restOf p 0) (length f2) (fieldAt f2 (from + 3) hi2)) code hi3 top3 f3 calls3) where
+        so-2 : whole ≡ run (restOf p 0) room (suc (budget - (steps + 1))) steps (fieldAt f2 (from + 3) hi2)
+        so-2 =
+            let q : budget - steps ≡ suc (budget - (steps + 1)) = (let l = i .left in omega arith) in
+            rw (same2, ← q) so-now
 
-      pub in-stack : (0 < d) × (3 * d ≤ used)
-      in-stack = (lead-at .above, let k = n .scanned .deep in let l = n .yes z .0 in omega arith)
+        pub stuck-from : (code ≡ 0 → ⊥) → {c s q l h : ℕ} → c ≡ code → s ≡ steps → q ≡ from → l ≡ from + 3 → h ≡ hi2 → Ended whole f3 c s q l h
+        stuck-from n ec es eq el eh = rw (ec, es, eq, el, eh) (go t refl refl)
+          where
+            go : {k h u : ℕ} {g cs : List ℕ} → Stepped f2 from read1 (depth1 - 1) (step (restOf p 0) (length f2) (fieldAt f2 (from + 3) hi2)) k h u g cs → k ≡ code → g ≡ f3 → Ended whole f3 code steps from (from + 3) hi2
+            go (goes a b l o sg) k e = absurd (n (sym k))
+            go (stays o c ef) k e =
+                let q : f3 ≡ f2 = sym e ∙ ef in
+                let st : step (restOf p 0) room (fieldAt f2 (from + 3) hi2) ≡ stuck code from = rw (← long2, ← k) o in
+                record {
+                  gap = good2 .gap;
+                  fits = rw q (good2 .fits);
+                  so = so-2 ∙ rw q (run-stuck (restOf p 0) room (budget - (steps + 1)) steps (fieldAt f2 (from + 3) hi2) code from st);
+                  small = stuck-code (subst (StepIs (restOf p 0) room (fieldAt f2 (from + 3) hi2)) st (step-is (restOf p 0) room (fieldAt f2 (from + 3) hi2))) .1;
+                }
 
-      -- with the place that was read from the stack
-      module _ (from : ℕ) (e : from ≡ getD calls′ (d - 1) 0) where
-        pub under-from : Under f used from at calls′ (d - 1)
-        under-from = let la = lead-at in rw e (record { term = la .term; opened = la .under; low = la .low })
-
-        module _ (more : steps ≡ budget → ⊥) (code u scan′ depth′ : ℕ) (f′ calls″ : List ℕ) (t : Stepped f from (step (restOf p 0) (length f) (fieldOf f used)) code u scan′ depth′ f′ calls″) where
-          one-left : budget - steps ≡ suc (budget - (steps + 1))
-          one-left = let l = i .left in omega arith
-
-          pub stuck-from : (code ≡ 0 → ⊥) → Ended whole f′ code steps used from
-          stuck-from c = go t refl refl
-            where
-              go : {k v s w : ℕ} {g cs : List ℕ} → Stepped f from (step (restOf p 0) (length f) (fieldOf f used)) k v s w g cs → k ≡ code → g ≡ f′ → Ended whole f′ code steps used from
-              go (goes es o w l ll b sc) k e = absurd (c (sym k))
-              go (stays o c ef) k e =
-                  let q : f′ ≡ f = sym e ∙ ef in
-                  let st : step (restOf p 0) room (fieldOf f used) ≡ stuck code from = rw (← i .long, ← k) o in
-                  record {
-                    es = fieldOf f used;
-                    so = i .so ∙ rw one-left (run-stuck (restOf p 0) room (budget - (steps + 1)) steps (fieldOf f used) code from st);
-                    fits = rw q (i .good .fits);
-                    bytes = rw q (sym (join-field f used));
-                    small = stuck-code (subst (StepIs (restOf p 0) room (fieldOf f used)) st (step-is (restOf p 0) room (fieldOf f used))) .1;
-                  }
-
-          pub next-from : Functions (restOf p 0) → code ≡ 0 → Between p room budget whole f′ calls″ u scan′ depth′ (steps + 1)
-          next-from ok c = go t c
-            where
-              go : {k v s w : ℕ} {g cs : List ℕ} → Stepped f from (step (restOf p 0) (length f) (fieldOf f used)) k v s w g cs → k ≡ 0 → Between p room budget whole g cs v s w (steps + 1)
-              go (stays o n ef) k = absurd (n k)
-              go {v = v} {g = g} (goes es′ o w l ll b sc) k =
-                  let st : step (restOf p 0) room (fieldOf f used) ≡ onward es′ = rw (← i .long) o in
-                  let fo : fieldOf g v ≡ es′ = unfold fieldOf in (ap (cut 0) b ∙ join-whole es′ w) in
-                  record {
-                    good =
-                        (let k = step-good (restOf p 0) room (fieldOf f used) es′ ok (record { solid = i .good .solid; balanced = i .good .balanced }) st in
-                        record { fits = l; whole = rw fo w; solid = rw fo (k .solid); balanced = rw fo (k .balanced) });
-                    scanned = sc;
-                    long = ll ∙ i .long;
-                    left = (let y = i .left in omega arith);
-                    so = i .so ∙ rw (one-left, add-one, fo) (run-onward (restOf p 0) room (budget - suc steps) steps (fieldOf f used) es′ st);
-                  }
+        pub next-from : Functions (restOf p 0) → code ≡ 0 → Between p room budget whole f3 calls3 from hi3 read1 (depth1 - 1) top3 (steps + 1)
+        next-from ok c = go t c
+          where
+            go : {k h u : ℕ} {g cs : List ℕ} → Stepped f2 from read1 (depth1 - 1) (step (restOf p 0) (length f2) (fieldAt f2 (from + 3) hi2)) k h u g cs → k ≡ 0 → Between p room budget whole g cs from h read1 (depth1 - 1) u (steps + 1)
+            go (stays o n ef) k = absurd (n k)
+            go {h = h} {g = g} (goes a b l o sg) k =
+                let st : step (restOf p 0) room (fieldAt f2 (from + 3) hi2) ≡ onward (fieldAt g from h) = rw (← long2) o in
+                let gd = step-good (restOf p 0) room (fieldAt f2 (from + 3) hi2) (fieldAt g from h) ok (record { solid = good2 .solid; balanced = good2 .balanced }) st in
+                record {
+                  good = record { gap = a; fits = omega arith; whole = solid-whole (gd .solid); solid = gd .solid; balanced = gd .balanced };
+                  standing = sg;
+                  long = l ∙ long2;
+                  left = (let y = i .left in omega arith);
+                  so = so-2 ∙ rw add-one (run-onward (restOf p 0) room (budget - suc steps) steps (fieldAt f2 (from + 3) hi2) (fieldAt g from h) st);
+                }
 
 -- THE END
-pub closed : (whole : Result) (f s f′ f″ s′ s″ : List ℕ) {code named steps used place : ℕ} → Ended whole f′ code steps used place → length f′ ≡ length f → length s′ ≡ length s
-    → f″ ≡ take used f′ ++ replicate (length f′ - used) 0 ++ drop (length f′) f′ → s″ ≡ take 0 s′ ++ replicate (length s′ - 0) 0 ++ drop (length s′) s′
-    → named ≡ code → closing f s whole ≡ answer named steps used place f″ s″
+join-field : (f : List ℕ) (used : ℕ) → join (fieldOf f used) ≡ take used f
+unfolding fieldOf
+join-field f used = join-cut (take used f)
+
+pub closed : (whole : Result) (f s f1 f2 f3 s1 s2 : List ℕ) {code named steps lo hi place : ℕ} → Ended whole f1 code steps place lo hi → length f1 ≡ length f → length s1 ≡ length s
+    → f2 ≡ paste f1 lo (drop hi f1) (length f1 - hi) → f3 ≡ take (lo + (length f1 - hi)) f2 ++ replicate (length f2 - (lo + (length f1 - hi))) 0 ++ drop (length f2) f2
+    → s2 ≡ take 0 s1 ++ replicate (length s1 - 0) 0 ++ drop (length s1) s1
+    → named ≡ code → closing f s whole ≡ answer named steps (lo + (length f1 - hi)) place f3 s2
 unfolding closing size
-closed whole f s f′ f″ s′ s″ {code} {named} {steps} {used} {place} e lf ls ef es en =
-    let su : length (join (e .es)) ≡ used = ap length (sym (e .bytes)) ∙ length-take-le used f′ (e .fits) in
-    let qf : f″ ≡ join (e .es) ++ replicate (length f - length (join (e .es))) 0 = ef ∙ rw (drop-length f′, lf, e .bytes, su) (append-nil _) in
-    let qs : s″ ≡ replicate (length s) 0 = es ∙ cleared s′ ∙ rw ls in
-    ap (closing f s) (e .so) ∙ rw (qf, qs, su, en)
+closed whole f s f1 f2 f3 s1 s2 {code} {named} {steps} {lo} {hi} {place} e lf ls e2 e3 es en =
+    let used : ℕ = lo + (length f1 - hi) in
+    let g = e .gap in
+    let h = e .fits in
+    let l2 : length f2 ≡ length f1 = ap length e2 ∙ length-paste f1 lo (drop hi f1) (length f1 - hi) (omega arith) (omega (arith, length-drop hi f1)) in
+    let by : take (lo + (length f1 - hi)) f2 ≡ join (fieldAt f1 lo hi) = sym (join-field f2 (lo + (length f1 - hi))) ∙ ap join (brought-down f1 f2 lo hi g h e2) in
+    let su : length (join (fieldAt f1 lo hi)) ≡ lo + (length f1 - hi) = ap length (sym by) ∙ length-take-le (lo + (length f1 - hi)) f2 (omega arith) in
+    let qf : f3 ≡ join (fieldAt f1 lo hi) ++ replicate (length f1 - length (join (fieldAt f1 lo hi))) 0 = e3 ∙ rw (drop-length f2, l2, su, ← by) (append-nil _) in
+    let qs : s2 ≡ replicate (length s) 0 = es ∙ cleared s1 ∙ rw ls in
+    ap (closing f s) (e .so) ∙ rw (qf, qs, su, en, lf)
+
+pub ended-as : {w v : Result} {f : List ℕ} {c s q l h : ℕ} → w ≡ v → Ended w f c s q l h → Ended v f c s q l h
+ended-as {f = f} {c} {s} {q} {l} {h} e x = subst (λ (r : Result). Ended r f c s q l h) e x

@@ -5,7 +5,7 @@ use mathlib.Core.Option.{none}
 use mathlib.Core.List.{List, [], _∷_, _++_}
 use Prim.Native.Nat.{ℕ, _+_, _-_, _≤_, _<_}
 use native.Mathlib.Omega.{arith}
-use lib.ListN.{length, getD, take, drop, length-append, length-drop, take-append-drop}
+use lib.ListN.{length, getD, take, drop, length-append, length-take, length-drop, take-append-drop}
 use lib.Seq.{take-at, drop-drop}
 use lib.Dec.{eqb}
 use borrow.Author.Tests.{le-leb, eqb-true, eqb-false, ne-eqb}
@@ -22,7 +22,7 @@ use Rattle.elements.specs.declared.Found.{Found}
 use Rattle.elements.specs.declared.Found.the-variants.{At, Nothing}
 use Rattle.elements.specs.Bytes.{Told}
 use Rattle.elements.specs.Reading.{Splits, Proper, none, more, Level, SymbolEnd, symbol-at, no-symbol, TermEnd, term-at, no-term}
-use Rattle.matching.specs.Binding.{envOf, Variable, ValueEnd, stands-at, differs, FreshE, of-variable, of-fixed, Single, Ways, one-way, no-ways, OnlyEnd}
+use Rattle.matching.specs.Binding.{envOf, Variable, Part, ValueEnd, stands-at, differs, FreshE, Table, Slotted, of-variable, of-fixed, Single, Ways, one-way, no-ways, OnlyEnd}
 use Rattle.matching.proofs.Sides.{proper-whole, bare, symbol-whole, part-elements, l-head, h-symbol, h-open, h-close, h-variable}
 use Rattle.matching.proofs.Slots.{env-settled, env-open, env-fixed, slot-small}
 
@@ -52,6 +52,23 @@ module _ (value arg : List ℕ) (at : ℕ) (proper : Proper (elements value)) (f
   pub value-long : length arg - at < length value → ValueEnd (elements value) arg at Nothing
   value-long l =
       differs (λ r q. never (let e = simp (length-append, length-drop) at (ap length (begins r q)) in omega arith))
+
+-- the same of a part
+module _ {s : List ℕ} {i j : ℕ} (f : Part s i j) (arg : List ℕ) (at : ℕ) (fits : at ≤ length arg) where
+  part-long : j - i ≡ length (take (j - i) (drop i s))
+  part-long = let a = f .on in let b = f .fits in simp (length-take, length-drop) (omega arith)
+
+  pub part-there : take (j - i) (drop i s) ≡ take (j - i) (drop at arg) → ValueEnd (elements (take (j - i) (drop i s))) arg at (At (at + (j - i)))
+  part-there e =
+      let z : at + (j - i) - at ≡ j - i = omega arith in
+      let n = part-long in
+      let l = simp (length-take, length-drop) at (ap length e) in
+      value-there (take (j - i) (drop i s)) arg at (f .proper) fits (j - i) n (omega arith) (rw z (ap elements e))
+
+  pub part-elsewhere : (take (j - i) (drop i s) ≡ take (j - i) (drop at arg) → ⊥) → ValueEnd (elements (take (j - i) (drop i s))) arg at Nothing
+  part-elsewhere g =
+      let z : at + (j - i) - at ≡ j - i = omega arith in
+      value-elsewhere (take (j - i) (drop i s)) arg at (f .proper) fits (j - i) part-long (λ q. g (sym (join-cut _) ∙ ap join q ∙ join-cut _ ∙ rw z))
 
 -- ROLES BY KINDS
 
@@ -112,6 +129,12 @@ term-ways p arg at (no-term f) = no-ways (no-way (fresh-each tVar p (elements (d
 same-element : {left : List ℕ} {i j : ℕ} {e e′ : List ℕ} → Splits left i (e ∷ []) j → Splits left i (e′ ∷ []) j → e ≡ e′
 same-element p q = cc (p .front, q .front)
 
+-- the value in the slot of an element
+pub held-slot : {arg b : List ℕ} {m slot : ℕ} {e : List ℕ} → Table arg b m → Slotted e slot → (slot ≡ 48 → ⊥) → within m slot ≡ true
+    → (getD b slot 0 ≤ getD b (slot + 48) 0) × (getD b (slot + 48) 0 ≤ length arg) × Proper (elements (valueOf arg b slot))
+held-slot t (of-fixed f z) h w = absurd (h z)
+held-slot t (of-variable {k} {n} v q z) h w = let e = t .held k n v (rw z at w) in rw z (e .up, e .fits, e .proper)
+
 module _ {left : List ℕ} {i j slot : ℕ} {arg : List ℕ} {at : ℕ} {b : List ℕ} {m : ℕ} (s : Single left i j slot arg at b m) where
   -- for the element there it is enough to show it for the one that is known to be there
   only-for : (r : Found) → Ways (known (envOf arg b m (s .e)) (s .e) (elements (drop at arg))) arg at r → OnlyEnd left i j arg at b m r
@@ -163,10 +186,7 @@ module _ {left : List ℕ} {i j slot : ℕ} {arg : List ℕ} {at : ℕ} {b : Lis
 
   pub held-there : (slot ≡ 48 → ⊥) → within m slot ≡ true
       → (getD b slot 0 ≤ getD b (slot + 48) 0) × (getD b (slot + 48) 0 ≤ length arg) × Proper (elements (valueOf arg b slot))
-  held-there h w =
-      elim (variable-there h) [
-        | a-variable k n v q z ↦ (let e = s .ready .table .held k n v (rw z at w) in rw z (e .up, e .fits, e .proper))
-      ]
+  held-there h w = held-slot (s .ready .table) (s .slotted) h w
 
   pub settled-only : (r : Found) → (slot ≡ 48 → ⊥) → within m slot ≡ true → ValueEnd (elements (valueOf arg b slot)) arg at r → OnlyEnd left i j arg at b m r
   unfolding known

@@ -3,28 +3,24 @@ use mathlib.Core.Path.{_≡_, refl, sym, _∙_, ap}
 use mathlib.Core.Bool.{Bool, true, false}
 use mathlib.Core.Option.{none, some}
 use mathlib.Core.List.{List, [], _∷_, _++_, append-assoc}
-use Prim.Native.Nat.{ℕ, suc, _+_, _-_, _%_, _^_, _≤_, _<_}
+use Prim.Native.Nat.{ℕ, suc, _+_, _-_, _≤_, _<_}
 use native.Mathlib.Omega.{arith}
-use lib.ListN.{length, take, drop}
-use lib.Dec.{eqb}
-use borrow.Author.Tests.{lt-leb, eq-eqb, ne-eqb}
+use lib.ListN.{length, getD, take, drop}
+use lib.Dec.{eqb, leb}
+use borrow.Author.Tests.{lt-leb, leb-true, leb-false, eq-eqb, ne-eqb}
 use Rattle.meaning.specs.Elements.{kind, body, elements, isVariable}
 use Rattle.meaning.specs.Goodness.{span}
 use Rattle.meaning.specs.Matching.{Terms, stop, symbol, bracket, Role, sVar, tVar, eVar, plain, role, Stands, Way, way, fronts, fresh, known, Env, bind, keep, firstOf, seek}
-use Rattle.meaning.proofs.Truth.{never}
+use Rattle.meaning.proofs.Truth.{never, is-true, is-false, see}
 use Rattle.meaning.proofs.Searching.{Good, known-each, Each, one-more}
 use Rattle.meaning.proofs.Trying.{first-none, first-one}
 use Rattle.kinds.specs.Slots.{slotOf, within, joined, valueOf}
-use Rattle.elements.specs.declared.Element.{Element}
-use Rattle.elements.specs.declared.Element.the-variants.{Character, Name, Macrodigit, Open, Close, Call, Return, SVariable, TVariable, EVariable, Equals, SentenceEnd, Header, FunctionEnd, ProgramEnd}
-use Rattle.elements.specs.declared.Cursor.{Cursor}
-use Rattle.elements.specs.declared.Reading.the-variants.{Got, Bad, End}
 use Rattle.elements.specs.declared.Found.the-variants.{At, Nothing}
-use Rattle.elements.specs.Bytes.{kindOf, numberOf, digits, bytesOf}
-use Rattle.elements.specs.Reading.{Splits, Whole1, ReadAt, over, bad, got, Proper, none, more, Balanced, symbols, opening, closing}
-use Rattle.elements.proofs.Places.{symbol-kind, none-left as nothing-left, ends-here, here as here-element, cut-here, head, head-symbol, head-open, head-close}
+use Rattle.elements.specs.Reading.{Splits, Whole1, PassedOver, ProperAt, Proper, none, more, Balanced, symbols, opening, closing}
+use Rattle.elements.proofs.Digits.{one-byte}
+use Rattle.elements.proofs.Places.{symbol-kind, none-left as nothing-left, ends-here, here as there, kind-here, cut-here, proper-splits, head, head-symbol, head-open, head-close}
 use Rattle.elements.proofs.Levels.{behind-terms}
-use Rattle.matching.specs.Binding.{slotFor, envOf, Variable, LeftSide, Table, Ready, Kept, Outcome, lost, won, FreshE, Slotted, of-variable, of-fixed, Single, Ways, one-way, no-ways, OnlyEnd, noting, Settled, as-before, noted}
+use Rattle.matching.specs.Binding.{envOf, Variable, LeftSide, l-symbol, l-open, l-close, l-variable, LeftAt, SlotAt, Table, Ready, Kept, Outcome, lost, won, FreshE, Slotted, of-variable, of-fixed, Single, Ways, one-way, no-ways, OnlyEnd, noting, Settled, as-before, noted}
 use Rattle.matching.proofs.Slots.{slot-small, env-open, env-settled, bind-again, bind-noted, table-noted, table-sure, noting-kept, kept-self, kept-more, within-more}
 use Rattle.matching.proofs.Sides.{bare, symbol-whole, part-elements, l-head, h-symbol, h-open, h-close, h-variable}
 use Rattle.matching.proofs.Ends.{role-fixed, s-role, t-role, e-role, roles}
@@ -79,46 +75,97 @@ stands-terms plain p v h s = absurd (h refl)
 
 -- THE LEFT SIDE'S NEXT ELEMENT
 
-data SlotFor (x : Element) : Type 0 where
-  fixed : slotFor x ≡ 48 → isVariable (bytesOf x) ≡ false → SlotFor x
-  variable : 8 ≤ kindOf x → kindOf x ≤ 10 → slotFor x ≡ slotOf (kindOf x) (numberOf x) → body (kindOf x) ≡ 1 → SlotFor x
+module _ {left : List ℕ} {at : ℕ} (l : LeftAt left at) where
+  whole-at : (e : List ℕ) (es : List (List ℕ)) → elements (drop at left) ≡ e ∷ es → Whole1 e
+  whole-at e es q =
+      elim (l-head (rw q at (l .left-side))) [
+        | h-symbol t w s ↦ symbol-whole e t w
+        | h-open p s ↦ rw p (bare 4 (unfold span in refl) (unfold body in refl))
+        | h-close d p s ↦ rw p (bare 5 (unfold span in refl) (unfold body in refl))
+        | h-variable {k} {n} v p s ↦ rw p (variable-whole v)
+      ]
 
-slot-for : (x : Element) → SlotFor x
-unfolding isVariable body
-slot-for (Character n) = fixed refl refl
-slot-for (Name n) = fixed refl refl
-slot-for (Macrodigit n) = fixed refl refl
-slot-for Open = fixed refl refl
-slot-for Close = fixed refl refl
-slot-for (Call n) = fixed refl refl
-slot-for Return = fixed refl refl
-slot-for (SVariable n) = variable (omega arith) (omega arith) (omega arith) refl
-slot-for (TVariable n) = variable (omega arith) (omega arith) (omega arith) refl
-slot-for (EVariable n) = variable (omega arith) (omega arith) (omega arith) refl
-slot-for Equals = fixed refl refl
-slot-for SentenceEnd = fixed refl refl
-slot-for (Header n) = fixed refl refl
-slot-for FunctionEnd = fixed refl refl
-slot-for ProgramEnd = fixed refl refl
+  pub left-proper : ProperAt left at
+  left-proper = record { e = there left at (l .inside); es = _; is = cut-here left at (l .inside); whole = whole-at _ _ (cut-here left at (l .inside)) }
 
-pub slotted : (x : Element) {d : ℕ} {es : List (List ℕ)} → numberOf x < 256 ^ body (kindOf x) → LeftSide d (bytesOf x ∷ es) → Slotted (bytesOf x) (slotFor x)
-unfolding digits
-slotted x h s =
-    elim (slot-for x) [
-      | fixed e f ↦ of-fixed f e
-      | variable a b e o ↦
-          let z : numberOf x % 256 ≡ numberOf x = (let g : numberOf x < 256 ^ 1 = rw o at h in omega arith) in
-          let y : bytesOf x ≡ kindOf x ∷ numberOf x ∷ [] = rw (o, z) in
-          elim (l-head s) [
-            | h-symbol t l r ↦ never (let w = symbol-kind _ t in omega arith)
-            | h-open q r ↦ never (let w : kindOf x ≡ 4 = cc in omega arith)
-            | h-close c q r ↦ never (let w : kindOf x ≡ 5 = cc in omega arith)
-            | h-variable {k} {n} v q r ↦
-                let i : kindOf x ≡ k = cc in
-                let j : numberOf x ≡ n = cc in
-                of-variable (rw (← i, ← j) at v) y e
-          ]
+  pub left-kind : kind (left-proper .e) ≡ getD left at 0
+  unfolding left-proper
+  left-kind = kind-here left at (l .inside)
+
+  same-there : (e : List ℕ) (es : List (List ℕ)) → elements (drop at left) ≡ e ∷ es → there left at (l .inside) ≡ e
+  same-there e es q = cc (cut-here left at (l .inside), q)
+
+  -- the slot by the kind
+  pub slot-fixed : getD left at 0 < 8 → SlotAt left at 48
+  slot-fixed h = record {
+    slotted = λ e es q. of-fixed (low-fixed e (let k : kind e ≡ getD left at 0 = sym (ap kind (same-there e es q)) ∙ kind-here left at (l .inside) in omega arith)) refl;
+    high = omega arith;
+  }
+
+  pub record NamedAt : Type 0 where
+    pub v : Variable (getD left at 0) (getD left (at + 1) 0)
+    pub long : at + 1 < length left
+    pub is : there left at (l .inside) ≡ getD left at 0 ∷ getD left (at + 1) 0 ∷ []
+
+  pub named-at : 8 ≤ getD left at 0 → NamedAt
+  unfolding there
+  named-at h =
+      let kh = kind-here left at (l .inside) in
+      elim (l-head (rw (cut-here left at (l .inside)) at (l .left-side))) [
+        | h-symbol t w s ↦ never (let w = symbol-kind _ t in omega arith)
+        | h-open q s ↦ never (let w : getD left at 0 ≡ 4 = ap kind q in omega arith)
+        | h-close d q s ↦ never (let w : getD left at 0 ≡ 5 = ap kind q in omega arith)
+        | h-variable {k} {n} v q s ↦
+            let ek : getD left at 0 ≡ k = ap kind q in
+            let one : body (getD left at 0) ≡ 1 = (let w = variable-whole v .long in rw ek (omega arith)) in
+            let long : at + 1 < length left = omega (arith, proper-splits left-proper .fits) in
+            let tail : take (body (getD left at 0)) (drop (at + 1) left) ≡ n ∷ [] = cc in
+            let en : getD left (at + 1) 0 ≡ n = cc (one-byte left (at + 1) long, rw one at tail) in
+            record { v = rw (ek, en) v; long = long; is = rw one (ap {B = List ℕ} (λ (l : List ℕ). getD left at 0 ∷ l) (one-byte left (at + 1) long)) }
+      ]
+
+  pub slot-named : 8 ≤ getD left at 0 → (r : ℕ) → r ≡ slotOf (getD left at 0) (getD left (at + 1) 0) → r < 48 → SlotAt left at r
+  slot-named h r q s =
+      let n = named-at h in
+      record { slotted = λ e es p. of-variable (n .v) (sym (same-there e es p) ∙ n .is) q; high = omega arith }
+
+-- the next element of a left side, the place behind it and its slot
+pub record Next (left : List ℕ) (here next slot : ℕ) : Type 0 where
+  pub e : List ℕ
+  pub kind-is : kind e ≡ getD left here 0
+  pub on : here < next
+  pub split : Splits left here (e ∷ []) next
+  pub slotted : Slotted e slot
+
+pub next-here : {left : List ℕ} {here k next slot : ℕ} → LeftAt left here → PassedOver left here k next → SlotAt left here slot → Next left here next slot
+next-here l p s =
+    let w = left-proper l in
+    let q = p .next-is in
+    record { e = w .e; kind-is = left-kind l; on = omega arith; split = rw q (proper-splits w); slotted = s .slotted (w .e) (w .es) (w .is) }
+
+-- an opening bracket, and the left side behind it
+pub opening-next : {left : List ℕ} {here next slot : ℕ} → LeftAt left here → (x : Next left here next slot) → getD left here 0 ≡ 4 → (x .e ≡ 4 ∷ []) × LeftAt left next
+opening-next {left} {here} {next} l x h =
+    let e = x .kind-is in
+    elim (l-head (rw (x .split .front) at (l .left-side))) [
+      | h-symbol t z s ↦ never (let y = symbol-kind _ t in omega arith)
+      | h-open z s ↦ (z, record { depth = suc (l .depth); inside = more-left s; left-side = s })
+      | h-close d z s ↦ never (let y : kind (x .e) ≡ 5 = ap kind z in omega arith)
+      | h-variable {k} {n} v z s ↦ never (let y : kind (x .e) ≡ k = ap kind z in let o = v .low in omega arith)
     ]
+  where
+    not-over : {d : ℕ} {es : List (List ℕ)} → LeftSide (suc d) es → es ≡ [] → ⊥
+    not-over (l-symbol t z s) y = never (cc)
+    not-over (l-open s) y = never (cc)
+    not-over (l-close s) y = never (cc)
+    not-over (l-variable v s) y = never (cc)
+
+    more-left : LeftSide (suc (l .depth)) (elements (drop next left)) → next < length left
+    more-left s =
+        elim (see (leb (length left) next)) [
+          | is-true z ↦ absurd (not-over s (nothing-left left next (leb-true _ _ z)))
+          | is-false z ↦ leb-false _ _ z
+        ]
 
 -- THE LOOP OVER A LEFT SIDE
 
@@ -167,80 +214,49 @@ module _ {left : List ℕ} {i : ℕ} {arg : List ℕ} {at : ℕ} {b₀ : List �
           let n : place ≡ length arg → ⊥ = λ e. never (cc (nothing-left arg place (omega arith))) in
           rw (ne-eqb place (length arg) n) (lost (start (z ∷ zs) q) (g .kept))
 
-  -- a left side's elements are whole
-  whole-here : here < length left → (e : List ℕ) (es : List (List ℕ)) → elements (drop here left) ≡ e ∷ es → Whole1 e
-  whole-here h e es q =
-      elim (l-head (rw q at (g .ready .left-side))) [
-        | h-symbol t l s ↦ symbol-whole e t l
-        | h-open p s ↦ rw p (bare 4 (unfold span in refl) (unfold body in refl))
-        | h-close d p s ↦ rw p (bare 5 (unfold span in refl) (unfold body in refl))
-        | h-variable {k} {n} v p s ↦ rw p (variable-whole v)
-      ]
+  pub going-left : here < length left → LeftAt left here
+  going-left h = record { depth = g .ready .depth; inside = h; left-side = g .ready .left-side }
 
-  pub read-not-bad : here < length left → ReadAt left here Bad → ⊥
-  read-not-bad h (bad l f) = f (here-element left here h) _ (cut-here left here h) (whole-here h _ _ (cut-here left here h))
+  -- the next element of the left side
+  module _ {next slot : ℕ} (x : Next left here next slot) where
+    side : LeftSide (g .ready .depth) (x .e ∷ elements (drop next left))
+    side = rw (x .split .front) at (g .ready .left-side)
 
-  pub read-not-over : here < length left → ReadAt left here End → ⊥
-  read-not-over h (over l) = never (omega arith)
-
-  -- the next element of the left side, as the cursor reads it
-  module _ (x : Element) (c : Cursor) (r : ReadAt left here (Got x c)) where
-    pub read-splits : ReadAt left here (Got x c) → Splits left here (bytesOf x ∷ []) (c .at)
-    read-splits (got n l s) = s
-
-    pub read-on : ReadAt left here (Got x c) → here < c .at
-    read-on (got n l s) = l
-
-    read-number : ReadAt left here (Got x c) → numberOf x < 256 ^ body (kindOf x)
-    read-number (got n l s) = n
-
-    split : Splits left here (bytesOf x ∷ []) (c .at)
-    split = read-splits r
-
-    side : LeftSide (g .ready .depth) (bytesOf x ∷ elements (drop (c .at) left))
-    side = rw (split .front) at (g .ready .left-side)
-
-    pub slotted-here : Slotted (bytesOf x) (slotFor x)
-    slotted-here = slotted x (read-number r) side
-
-    pub slot-high : slotFor x ≤ 48
-    slot-high = elim slotted-here [ of-variable v q z ↦ (let l = slot-small v in omega arith) | of-fixed f z ↦ omega arith ]
-
-    pub single-here : (FreshE (slotFor x) m → ⊥) → Single left here (c .at) (slotFor x) arg place b m
-    single-here f = record { e = bytesOf x; ready = g .ready; split = split; slotted = slotted-here; only = f }
+    pub single-here : (FreshE slot m → ⊥) → Single left here next slot arg place b m
+    single-here f = record { e = x .e; ready = g .ready; split = x .split; slotted = x .slotted; only = f }
 
     -- an e-variable without a value: its lengths are tried
-    module _ (f : FreshE (slotFor x) m) where
+    module _ (f : FreshE slot m) where
       record Fresh : Type 0 where
         n : ℕ
         v : Variable 10 n
-        is : bytesOf x ≡ 10 ∷ n ∷ []
-        slot : slotFor x ≡ slotOf 10 n
-        rest : LeftSide (g .ready .depth) (elements (drop (c .at) left))
+        is : x .e ≡ 10 ∷ n ∷ []
+        at-slot : slot ≡ slotOf 10 n
+        rest : LeftSide (g .ready .depth) (elements (drop next left))
 
       fresh-e : Fresh
       fresh-e =
-          elim (slotted-here) [
+          elim (x .slotted) [
             | of-fixed h z ↦ never (let u = f .high in omega arith)
             | of-variable {k} {n} v q z ↦
                 let a = f .low in let s = v .small in let o = v .high in
                 let e : k ≡ 10 = omega arith in
-                record { n = n; v = rw e at v; is = rw e at q; slot = rw e at z; rest = past v q }
+                record { n = n; v = rw e at v; is = rw e at q; at-slot = rw e at z; rest = past v q }
           ]
         where
-          past : {k n : ℕ} → Variable k n → bytesOf x ≡ k ∷ n ∷ [] → LeftSide (g .ready .depth) (elements (drop (c .at) left))
+          past : {k n : ℕ} → Variable k n → x .e ≡ k ∷ n ∷ [] → LeftSide (g .ready .depth) (elements (drop next left))
           past {k} {n} v q =
               elim (l-head side) [
-                | h-symbol t l s ↦ never (let w = symbol-kind _ t in let a = v .low in let e : kindOf x ≡ k = cc in omega arith)
-                | h-open p s ↦ never (let a = v .low in let e : k ≡ 4 = cc in omega arith)
-                | h-close d p s ↦ never (let a = v .low in let e : k ≡ 5 = cc in omega arith)
+                | h-symbol t l s ↦ never (let w = symbol-kind _ t in let a = v .low in let e : kind (x .e) ≡ k = ap kind q in omega arith)
+                | h-open p s ↦ never (let a = v .low in let e : k ≡ 4 = sym (ap kind q) ∙ ap kind p in omega arith)
+                | h-close d p s ↦ never (let a = v .low in let e : k ≡ 5 = sym (ap kind q) ∙ ap kind p in omega arith)
                 | h-variable w p s ↦ s
               ]
 
-      pub fresh-ready : Ready left (c .at) arg place b m
+      pub fresh-ready : Ready left next arg place b m
       fresh-ready = record {
         depth = g .ready .depth;
-        left-fits = split .fits;
+        left-fits = x .split .fits;
         arg-fits = g .ready .arg-fits;
         left-side = fresh-e .rest;
         argument = g .ready .argument;
@@ -248,42 +264,42 @@ module _ {left : List ℕ} {i : ℕ} {arg : List ℕ} {at : ℕ} {b₀ : List �
       }
 
       pub fresh-seek : seek (elements (drop here left)) (elements (drop place arg)) (envOf arg b m)
-          ≡ firstOf (seek (elements (drop (c .at) left))) (10 ∷ (slotFor x - 32) ∷ []) (envOf arg b m) (fronts (elements (drop place arg)) 0)
+          ≡ firstOf (seek (elements (drop next left))) (10 ∷ (slot - 32) ∷ []) (envOf arg b m) (fronts (elements (drop place arg)) 0)
       unfolding seek known fresh role
       fresh-seek =
           let z = fresh-e in
-          let n : slotFor x - 32 ≡ z .n = omega (arith, z .slot) in
-          rw (split .front, z .is, n, env-open arg b m (z .v) (rw (z .slot) at (f .free)))
+          let n : slot - 32 ≡ z .n = omega (arith, z .at-slot) in
+          rw (x .split .front, z .is, n, env-open arg b m (z .v) (rw (z .at-slot) at (f .free)))
 
     -- any other element has one way, or none
-    module _ (o : (e : List ℕ) → Splits left here (e ∷ []) (c .at) → Ways (known (envOf arg b m e) e (elements (drop place arg))) arg place Nothing) where
+    module _ (o : (e : List ℕ) → Splits left here (e ∷ []) next → Ways (known (envOf arg b m e) e (elements (drop place arg))) arg place Nothing) where
       pub going-stuck : seek (elements (drop here left)) (elements (drop place arg)) (envOf arg b m) ≡ none
       unfolding seek
-      going-stuck = rw (split .front) (stuck (o (bytesOf x) split))
+      going-stuck = rw (x .split .front) (stuck (o (x .e) (x .split)))
         where
-          stuck : {ws : List Way} → Ways ws arg place Nothing → firstOf (seek (elements (drop (c .at) left))) (bytesOf x) (envOf arg b m) ws ≡ none
-          stuck (no-ways q) = rw q (first-none (seek (elements (drop (c .at) left))) (bytesOf x) (envOf arg b m))
+          stuck : {ws : List Way} → Ways ws arg place Nothing → firstOf (seek (elements (drop next left))) (x .e) (envOf arg b m) ws ≡ none
+          stuck (no-ways q) = rw q (first-none (seek (elements (drop next left))) (x .e) (envOf arg b m))
 
 -- one element further
 module _ {left : List ℕ} {i : ℕ} {arg : List ℕ} {at : ℕ} {b₀ : List ℕ} {m₀ here place : ℕ} {b : List ℕ} {m : ℕ} (g : Going left i arg at b₀ m₀ here place b m)
-    (x : Element) (c : Cursor) (r : ReadAt left here (Got x c)) where
+    {next slot : ℕ} (x : Next left here next slot) where
   after : List (List ℕ)
-  after = elements (drop (c .at) left)
+  after = elements (drop next left)
 
   -- the way of an element: what it stands for, and where it ends
   record Taken (end : ℕ) : Type 0 where
     v : List (List ℕ)
-    good : Good (envOf arg b m) (bytesOf x) (elements (drop place arg)) v (elements (drop end arg))
+    good : Good (envOf arg b m) (x .e) (elements (drop place arg)) v (elements (drop end arg))
     split : Splits arg place v end
-    seeks : seek (elements (drop here left)) (elements (drop place arg)) (envOf arg b m) ≡ seek after (elements (drop end arg)) (keep (role (bytesOf x)) (bytesOf x) v (envOf arg b m))
+    seeks : seek (elements (drop here left)) (elements (drop place arg)) (envOf arg b m) ≡ seek after (elements (drop end arg)) (keep (role (x .e)) (x .e) v (envOf arg b m))
 
-  taken : {end : ℕ} → Ways (known (envOf arg b m (bytesOf x)) (bytesOf x) (elements (drop place arg))) arg place (At end) → Taken end
+  taken : {end : ℕ} → Ways (known (envOf arg b m (x .e)) (x .e) (elements (drop place arg))) arg place (At end) → Taken end
   unfolding seek after
   taken {end} (one-way {v} q p) = record {
     v = v;
-    good = first (rw q at (known-each (envOf arg b m) (bytesOf x) (elements (drop place arg)) (table-sure arg b m (g .ready .table))));
+    good = first (rw q at (known-each (envOf arg b m) (x .e) (elements (drop place arg)) (table-sure arg b m (g .ready .table))));
     split = p;
-    seeks = rw (read-splits g x c r r .front, q) (first-one (seek (elements (drop (c .at) left))) (bytesOf x) (envOf arg b m) v (elements (drop end arg)));
+    seeks = rw (x .split .front, q) (first-one (seek (elements (drop next left))) (x .e) (envOf arg b m) v (elements (drop end arg)));
   }
     where
       first : {P : List (List ℕ) → List (List ℕ) → Type 0} {u w : List (List ℕ)} → Each P (way u w ∷ []) → P u w
@@ -298,59 +314,59 @@ module _ {left : List ℕ} {i : ℕ} {arg : List ℕ} {at : ℕ} {b₀ : List �
   levelled : {end : ℕ} → Taken end → Levelled end
   unfolding after
   levelled {end} t =
-      let s = rw (read-splits g x c r r .front) at (g .ready .left-side) in
+      let s = rw (x .split .front) at (g .ready .left-side) in
       let a = g .ready .argument in
       elim (l-head s) [
         | h-symbol h l s′ ↦
             let w = symbol-kind _ h in
-            let q : t .v ≡ bytesOf x ∷ [] = rw (role-fixed (bytesOf x) (low-fixed (bytesOf x) (omega arith))) at (t .good .stands) in
+            let q : t .v ≡ x .e ∷ [] = rw (role-fixed (x .e) (low-fixed (x .e) (omega arith))) at (t .good .stands) in
             elim (head (rw (t .good .front, q) at a)) [
               | head-symbol h′ l′ b′ ↦ record { depth = g .ready .depth; left-side = s′; argument = b′ }
-              | head-open e b′ ↦ never (let z : kindOf x ≡ 4 = cc in omega arith)
-              | head-close d e b′ ↦ never (let z : kindOf x ≡ 5 = cc in omega arith)
+              | head-open e b′ ↦ never (let z : kind (x .e) ≡ 4 = ap kind e in omega arith)
+              | head-close d e b′ ↦ never (let z : kind (x .e) ≡ 5 = ap kind e in omega arith)
             ]
         | h-open e s′ ↦
-            let k : kindOf x ≡ 4 = cc in
-            let q : t .v ≡ bytesOf x ∷ [] = rw (role-fixed (bytesOf x) (low-fixed (bytesOf x) (omega arith))) at (t .good .stands) in
+            let k : kind (x .e) ≡ 4 = ap kind e in
+            let q : t .v ≡ x .e ∷ [] = rw (role-fixed (x .e) (low-fixed (x .e) (omega arith))) at (t .good .stands) in
             elim (head (rw (t .good .front, q) at a)) [
               | head-symbol h′ l′ b′ ↦ never (let w = symbol-kind _ h′ in omega arith)
               | head-open e′ b′ ↦ record { depth = suc (g .ready .depth); left-side = s′; argument = b′ }
-              | head-close d e′ b′ ↦ never (let z : kindOf x ≡ 5 = cc in omega arith)
+              | head-close d e′ b′ ↦ never (let z : kind (x .e) ≡ 5 = ap kind e′ in omega arith)
             ]
         | h-close {c = d₁} d e s′ ↦
-            let k : kindOf x ≡ 5 = cc in
-            let q : t .v ≡ bytesOf x ∷ [] = rw (role-fixed (bytesOf x) (low-fixed (bytesOf x) (omega arith))) at (t .good .stands) in
+            let k : kind (x .e) ≡ 5 = ap kind e in
+            let q : t .v ≡ x .e ∷ [] = rw (role-fixed (x .e) (low-fixed (x .e) (omega arith))) at (t .good .stands) in
             elim (head (rw (t .good .front, q) at a)) [
               | head-symbol h′ l′ b′ ↦ never (let w = symbol-kind _ h′ in omega arith)
-              | head-open e′ b′ ↦ never (let z : kindOf x ≡ 4 = cc in omega arith)
+              | head-open e′ b′ ↦ never (let z : kind (x .e) ≡ 4 = ap kind e′ in omega arith)
               | head-close {c = d₂} d′ e′ b′ ↦ (let z : d₂ ≡ d₁ = omega arith in record { depth = d₁; left-side = s′; argument = rw z at b′ })
             ]
         | h-variable {k} {n} w e s′ ↦
-            let (n′, ts) = stands-terms (role (bytesOf x)) (bytesOf x) (t .v) (rw e (no-plain w)) (t .good .stands) in
+            let (n′, ts) = stands-terms (role (x .e)) (x .e) (t .v) (rw e (no-plain w)) (t .good .stands) in
             record { depth = g .ready .depth; left-side = s′; argument = behind-terms ts (rw (t .good .front) at a) }
       ]
 
   -- the table and the settled slots after the value is noted
   record Noted (end : ℕ) (v : List (List ℕ)) (b′ : List ℕ) (m′ : ℕ) : Type 0 where
     table : Table arg b′ m′
-    env : envOf arg b′ m′ ≡ keep (role (bytesOf x)) (bytesOf x) v (envOf arg b m)
+    env : envOf arg b′ m′ ≡ keep (role (x .e)) (x .e) v (envOf arg b m)
     kept : Kept m b b′
     more : (s : ℕ) → s < 48 → within m s ≡ true → within m′ s ≡ true
 
-  unchanged : {end : ℕ} (t : Taken end) → (slotFor x < 48 → within m (slotFor x) ≡ true) → envOf arg b m ≡ keep (role (bytesOf x)) (bytesOf x) (t .v) (envOf arg b m)
+  unchanged : {end : ℕ} (t : Taken end) → (slot < 48 → within m slot ≡ true) → envOf arg b m ≡ keep (role (x .e)) (x .e) (t .v) (envOf arg b m)
   unfolding keep
   unchanged t f =
-      elim (slotted-here g x c r) [
-        | of-fixed h z ↦ rw (role-fixed (bytesOf x) h)
+      elim (x .slotted) [
+        | of-fixed h z ↦ rw (role-fixed (x .e) h)
         | of-variable {k} {n} w e z ↦
             let l = slot-small w in
             let s = env-settled arg b m w (rw z at (f (omega arith))) in
             let q : t .v ≡ elements (valueOf arg b (slotOf k n)) = t .good .agrees _ (rw e s) in
-            let y : keep (role (bytesOf x)) (bytesOf x) (t .v) (envOf arg b m) ≡ bind (bytesOf x) (t .v) (envOf arg b m) = rw e (keep-bind w _ _) in
-            sym (y ∙ bind-again (bytesOf x) (t .v) (envOf arg b m) (rw e (s ∙ ap some (sym q))))
+            let y : keep (role (x .e)) (x .e) (t .v) (envOf arg b m) ≡ bind (x .e) (t .v) (envOf arg b m) = rw e (keep-bind w _ _) in
+            sym (y ∙ bind-again (x .e) (t .v) (envOf arg b m) (rw e (s ∙ ap some (sym q))))
       ]
 
-  noted-on : {end : ℕ} (t : Taken end) {b′ : List ℕ} {m′ : ℕ} → Settled b m (slotFor x) place end b′ m′ → Noted end (t .v) b′ m′
+  noted-on : {end : ℕ} (t : Taken end) {b′ : List ℕ} {m′ : ℕ} → Settled b m slot place end b′ m′ → Noted end (t .v) b′ m′
   noted-on t (as-before f eb em) = record {
     table = rw (eb, em) (g .ready .table);
     env = rw (eb, em) (unchanged t f);
@@ -358,10 +374,10 @@ module _ {left : List ℕ} {i : ℕ} {arg : List ℕ} {at : ℕ} {b₀ : List �
     more = λ s l w. rw em w;
   }
   noted-on {end} t {b′} {m′} (noted l f eb em) =
-      elim (slotted-here g x c r) [
+      elim (x .slotted) [
         | of-fixed h z ↦ never (omega arith)
         | of-variable {k} {n} w e z ↦
-            let (n′, ts) = stands-terms (role (bytesOf x)) (bytesOf x) (t .v) (rw e (no-plain w)) (t .good .stands) in
+            let (n′, ts) = stands-terms (role (x .e)) (x .e) (t .v) (rw e (no-plain w)) (t .good .stands) in
             let p : Proper (t .v) = terms-proper ts (elements (drop end arg)) (rw (t .good .front) at (g .ready .argument)) in
             let y : elements (take (end - place) (drop place arg)) ≡ t .v = part-elements (t .split) p in
             let long = g .ready .table .long in
@@ -375,16 +391,16 @@ module _ {left : List ℕ} {i : ℕ} {arg : List ℕ} {at : ℕ} {b₀ : List �
             }
       ]
 
-  pub going-on : (end : ℕ) {b′ : List ℕ} {m′ : ℕ} → OnlyEnd left here (c .at) arg place b m (At end) → Settled b m (slotFor x) place end b′ m′
-      → Going left i arg at b₀ m₀ (c .at) end b′ m′
+  pub going-on : (end : ℕ) {b′ : List ℕ} {m′ : ℕ} → OnlyEnd left here next arg place b m (At end) → Settled b m slot place end b′ m′
+      → Going left i arg at b₀ m₀ next end b′ m′
   unfolding after
   going-on end o s =
-      let t = taken (o .ways (bytesOf x) (read-splits g x c r r)) in
+      let t = taken (o .ways (x .e) (x .split)) in
       let l = levelled t in
       let n = noted-on t s in
       record {
-        on = omega (arith, g .on, read-on g x c r r);
-        ready = record { depth = l .depth; left-fits = read-splits g x c r r .fits; arg-fits = t .split .fits; left-side = l .left-side; argument = l .argument; table = n .table };
+        on = omega (arith, g .on, x .on);
+        ready = record { depth = l .depth; left-fits = x .split .fits; arg-fits = t .split .fits; left-side = l .left-side; argument = l .argument; table = n .table };
         same = g .same ∙ t .seeks ∙ rw (n .env);
         kept = kept-more (g .more) (g .kept) (n .kept);
         more = λ v h w. n .more v h (g .more v h w);

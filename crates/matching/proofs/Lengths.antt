@@ -9,7 +9,7 @@ use native.Mathlib.Nat.{zero-add, suc-add}
 use lib.ListN.{length, drop}
 use Rattle.meaning.specs.Elements.{kind, elements, join}
 use Rattle.meaning.specs.Matching.{Terms, stop, symbol, bracket, Stands, role, keep, firstOf, fronts, seek}
-use Rattle.meaning.proofs.Truth.{never}
+use Rattle.meaning.proofs.Truth.{never, is-none, is-some, seeO}
 use Rattle.meaning.proofs.Trying.{tries, tries-start, tries-first, tries-term, tries-next, tries-stop, last-takes-all}
 use Rattle.kinds.specs.Slots.{slotOf, within, joined}
 use Rattle.elements.specs.declared.Found.the-variants.{At, Nothing}
@@ -17,9 +17,25 @@ use Rattle.elements.specs.Reading.{Splits, Balanced, Level, TermEnd, term-at, n
 use Rattle.elements.proofs.Places.{symbol-kind, none-left, split-join, split-nothing, split-size}
 use Rattle.elements.proofs.Levels.{level-terms, behind-terms}
 use Rattle.matching.specs.Binding.{envOf, Variable, LeftSide, l-end, Table, Ready, Kept, Outcome, lost, won, FreshE, noting, Settled, as-before, noted}
+use Rattle.matching.specs.declared.Ahead.{Ahead}
+use Rattle.matching.specs.Foresight.{Barred, Sound, Ending, Skipped, at-once, term-more, NextEnd, ends-at, never-ends}
 use Rattle.matching.proofs.Slots.{slot-small, env-same, bind-noted, table-noted, table-kept, noting-kept, kept-self, kept-more, within-more}
 use Rattle.matching.proofs.Going.{terms-proper, keep-bind}
 use Rattle.matching.proofs.Sides.{part-elements}
+
+long : (e : List ℕ) (es : List (List ℕ)) → 1 ≤ kind e → 0 < length (join (e ∷ es))
+unfolding join
+long [] es h = never (omega arith)
+long (k ∷ bs) es h = omega arith
+
+some-bytes : {v : List (List ℕ)} → Terms 1 v → 0 < length (join v)
+unfolding join
+some-bytes (symbol {e} {es} h r) = long e es (symbol-kind e h .0)
+some-bytes (bracket r r′ e) = omega arith
+
+-- a term moves on
+pub term-less : {arg : List ℕ} {end next : ℕ} → TermEnd arg end (At next) → (end < next) × (next ≤ length arg)
+term-less (term-at {v} t q) = (omega (arith, split-size q, some-bytes t, q .on), q .fits)
 
 -- terms after terms
 terms-more : {m n : ℕ} {v u : List (List ℕ)} → Terms m v → Terms n u → Terms (m + n) (v ++ u)
@@ -117,6 +133,30 @@ module _ {left : List ℕ} {j : ℕ} {arg : List ℕ} {at : ℕ} {b₀ : List �
       let k = noted-end (g .ready) (g .fresh) (g .terms) (g .split) (g .kept) s in
       record { depth = g .ready .depth; left-fits = g .ready .left-fits; arg-fits = g .split .fits; left-side = g .ready .left-side; argument = g .balanced; table = k .table }
 
+  -- nothing goes through with this length
+  module _ {b₂ : List ℕ} (k : Kept m b₀ b₂)
+      (h : seek (elements (drop j left)) (elements (drop end arg)) (keep (role (10 ∷ (slot - 32) ∷ [])) (10 ∷ (slot - 32) ∷ []) (g .v) (envOf arg b₀ m)) ≡ none) where
+    longer : {next : ℕ} → TermEnd arg end (At next) → Trying left j arg at b₀ m slot next b₂
+    longer {next} (term-at {v = u} t q) = record {
+      ready = g .ready;
+      fresh = g .fresh;
+      n = g .n + 1;
+      v = g .v ++ u;
+      terms = terms-more (g .terms) t;
+      split = split-join (g .split) q;
+      balanced = behind-terms t (rw (q .front) at (g .balanced));
+      kept = k;
+      same =
+          g .same
+          ∙ rw (q .front) (tries-term (seek (elements (drop j left))) (10 ∷ (slot - 32) ∷ []) (envOf arg b₀ m) (g .v) (elements (drop next arg)) t)
+          ∙ tries-next (seek (elements (drop j left))) (10 ∷ (slot - 32) ∷ []) (envOf arg b₀ m) _ (rw (q .front) at h);
+    }
+
+    no-longer : TermEnd arg end Nothing
+        → Outcome arg b₀ m b₂ (firstOf (seek (elements (drop j left))) (10 ∷ (slot - 32) ∷ []) (envOf arg b₀ m) (fronts (elements (drop at arg)) 0)) false
+    no-longer (no-term f) =
+        lost (g .same ∙ tries-stop (seek (elements (drop j left))) (10 ∷ (slot - 32) ∷ []) (envOf arg b₀ m) (g .v) (elements (drop end arg)) f ∙ tries-next (seek (elements (drop j left))) (10 ∷ (slot - 32) ∷ []) (envOf arg b₀ m) none h) k
+
   module _ {b₁ : List ℕ} {m₁ : ℕ} (s : Settled b m slot at end b₁ m₁) {b₂ : List ℕ} where
     pub trying-found : Outcome arg b₁ m₁ b₂ (seek (elements (drop j left)) (elements (drop end arg)) (envOf arg b₁ m₁)) true
         → Outcome arg b₀ m b₂ (firstOf (seek (elements (drop j left))) (10 ∷ (slot - 32) ∷ []) (envOf arg b₀ m) (fronts (elements (drop at arg)) 0)) true
@@ -131,39 +171,38 @@ module _ {left : List ℕ} {j : ℕ} {arg : List ℕ} {at : ℕ} {b₀ : List �
         (rw (k .env) at q, kept-more (k .more) (k .kept) k₂)
 
     pub trying-on : (next : ℕ) → Outcome arg b₁ m₁ b₂ (seek (elements (drop j left)) (elements (drop end arg)) (envOf arg b₁ m₁)) false → TermEnd arg end (At next) → Trying left j arg at b₀ m slot next b₂
-    trying-on next o (term-at {v = u} t q) =
-        let (h, k) = missed o in
-        record {
-          ready = g .ready;
-          fresh = g .fresh;
-          n = g .n + 1;
-          v = g .v ++ u;
-          terms = terms-more (g .terms) t;
-          split = split-join (g .split) q;
-          balanced = behind-terms t (rw (q .front) at (g .balanced));
-          kept = k;
-          same =
-              g .same
-              ∙ rw (q .front) (tries-term (seek (elements (drop j left))) (10 ∷ (slot - 32) ∷ []) (envOf arg b₀ m) (g .v) (elements (drop next arg)) t)
-              ∙ tries-next (seek (elements (drop j left))) (10 ∷ (slot - 32) ∷ []) (envOf arg b₀ m) _ (rw (q .front) at h);
-        }
+    trying-on next o t = let (h, k) = missed o in longer k h t
 
     pub trying-over : Outcome arg b₁ m₁ b₂ (seek (elements (drop j left)) (elements (drop end arg)) (envOf arg b₁ m₁)) false → TermEnd arg end Nothing
         → Outcome arg b₀ m b₂ (firstOf (seek (elements (drop j left))) (10 ∷ (slot - 32) ∷ []) (envOf arg b₀ m) (fronts (elements (drop at arg)) 0)) false
-    trying-over o (no-term h) =
-        let (q, k) = missed o in
-        lost (g .same ∙ tries-stop (seek (elements (drop j left))) (10 ∷ (slot - 32) ∷ []) (envOf arg b₀ m) (g .v) (elements (drop end arg)) h ∙ tries-next (seek (elements (drop j left))) (10 ∷ (slot - 32) ∷ []) (envOf arg b₀ m) none q) k
+    trying-over o t = let (h, k) = missed o in no-longer k h t
 
-long : (e : List ℕ) (es : List (List ℕ)) → 1 ≤ kind e → 0 < length (join (e ∷ es))
-unfolding join
-long [] es h = never (omega arith)
-long (k ∷ bs) es h = omega arith
+  barred-none : {w : Ahead} → Sound w arg (Ending left j arg at b₀ m slot) → Barred w arg end
+      → seek (elements (drop j left)) (elements (drop end arg)) (keep (role (10 ∷ (slot - 32) ∷ [])) (10 ∷ (slot - 32) ∷ []) (g .v) (envOf arg b₀ m)) ≡ none
+  barred-none s o =
+      elim (seeO (seek (elements (drop j left)) (elements (drop end arg)) (keep (role (10 ∷ (slot - 32) ∷ [])) (10 ∷ (slot - 32) ∷ []) (g .v) (envOf arg b₀ m)))) [
+        | is-none h ↦ h
+        | is-some y h ↦
+            absurd (s .barred end (g .split .fits) o (record { v = g .v; split = g .split; through = record { n = g .n; terms = g .terms; env = y; found = rw (keep-bind (e-variable (g .fresh)) (g .v) (envOf arg b₀ m)) at h } }))
+      ]
 
-some-bytes : {v : List (List ℕ)} → Terms 1 v → 0 < length (join v)
-unfolding join
-some-bytes (symbol {e} {es} h r) = long e es (symbol-kind e h .0)
-some-bytes (bracket r r′ e) = omega arith
+-- barred lengths passed over
+module _ {left : List ℕ} {j : ℕ} {arg : List ℕ} {at : ℕ} {b₀ : List ℕ} {m slot end : ℕ} {b : List ℕ} (g : Trying left j arg at b₀ m slot end b)
+    {w : Ahead} (s : Sound w arg (Ending left j arg at b₀ m slot)) where
+  pub trying-past : {t : ℕ} → Skipped w arg end t → Trying left j arg at b₀ m slot t b
+  trying-past at-once = g
+  trying-past (term-more k o t) = let d = trying-past k in longer d (d .kept) (barred-none d s o) t
 
--- a term moves on
-pub term-less : {arg : List ℕ} {end next : ℕ} → TermEnd arg end (At next) → (end < next) × (next ≤ length arg)
-term-less (term-at {v} t q) = (omega (arith, split-size q, some-bytes t, q .on), q .fits)
+  pub trying-barred : NextEnd w arg end Nothing
+      → Outcome arg b₀ m b (firstOf (seek (elements (drop j left))) (10 ∷ (slot - 32) ∷ []) (envOf arg b₀ m) (fronts (elements (drop at arg)) 0)) false
+  trying-barred (never-ends k o t) = let d = trying-past k in no-longer d (d .kept) (barred-none d s o) t
+
+  pub trying-next : {t : ℕ} → NextEnd w arg end (At t) → Trying left j arg at b₀ m slot t b
+  trying-next (ends-at k) = trying-past k
+
+pub skipped-on : {w : Ahead} {s : List ℕ} {at t : ℕ} → NextEnd w s at (At t) → at ≤ t
+skipped-on {w} {s} {at} (ends-at k) = go k
+  where
+    go : {i : ℕ} → Skipped w s at i → at ≤ i
+    go at-once = omega arith
+    go (term-more k o t) = let l = go k in let n = term-less t in omega arith

@@ -97,11 +97,11 @@ env-free arg b = fun-ext go
     go (k ∷ n ∷ []) = rw (none-within (slotOf k n)) (rw and-false)
     go (k ∷ n ∷ x ∷ w) = refl
 
-bind-yes : (p w : List ℕ) (v : List (List ℕ)) (env : Env) → same p w ≡ true → bind p v env w ≡ some v
+pub bind-yes : (p w : List ℕ) (v : List (List ℕ)) (env : Env) → same p w ≡ true → bind p v env w ≡ some v
 unfolding bind
 bind-yes p w v env h = rw (h, bind)
 
-bind-no : (p w : List ℕ) (v : List (List ℕ)) (env : Env) → same p w ≡ false → bind p v env w ≡ env w
+pub bind-no : (p w : List ℕ) (v : List (List ℕ)) (env : Env) → same p w ≡ false → bind p v env w ≡ env w
 unfolding bind
 bind-no p w v env h = rw (h, bind)
 

@@ -9,28 +9,9 @@ use lib.Dec.{T, leb}
 use Rattle.meaning.specs.Elements.{kind, body, elements, among, isSymbol, isVariable}
 use Rattle.meaning.specs.Matching.{role, Stands, Way, way, Env, free, seek, known}
 use Rattle.kinds.specs.Slots.{slotOf, within, joined, valueOf}
-use Rattle.elements.specs.declared.Element.{Element}
-use Rattle.elements.specs.declared.Element.the-variants.{Character, Name, Macrodigit, Open, Close, Call, Return, SVariable, TVariable, EVariable, Equals, SentenceEnd, Header, FunctionEnd, ProgramEnd}
 use Rattle.elements.specs.declared.Found.{Found}
 use Rattle.elements.specs.declared.Found.the-variants.{At, Nothing}
 use Rattle.elements.specs.Reading.{Splits, Proper, Balanced}
-
-abbrev pub slotFor : Element → ℕ
-slotFor (Character n) = 48
-slotFor (Name n) = 48
-slotFor (Macrodigit n) = 48
-slotFor Open = 48
-slotFor Close = 48
-slotFor (Call n) = 48
-slotFor Return = 48
-slotFor (SVariable n) = n
-slotFor (TVariable n) = n + 16
-slotFor (EVariable n) = n + 32
-slotFor Equals = 48
-slotFor SentenceEnd = 48
-slotFor (Header n) = 48
-slotFor FunctionEnd = 48
-slotFor ProgramEnd = 48
 
 abbrev pub pick : Bool → List (List ℕ) → Option (List (List ℕ))
 pick true x = some x
@@ -102,6 +83,23 @@ pub record FreshE (slot m : ℕ) : Type 0 where
 pub data Slotted (e : List ℕ) (slot : ℕ) : Type 0 where
   of-variable : {k n : ℕ} → Variable k n → e ≡ k ∷ n ∷ [] → slot ≡ slotOf k n → Slotted e slot
   of-fixed : isVariable e ≡ false → slot ≡ 48 → Slotted e slot
+
+-- an element of a left side stands there
+pub record LeftAt (left : List ℕ) (at : ℕ) : Type 0 where
+  pub depth : ℕ
+  pub inside : at < length left
+  pub left-side : LeftSide depth (elements (drop at left))
+
+-- the slot of the element there
+pub record SlotAt (left : List ℕ) (at slot : ℕ) : Type 0 where
+  pub slotted : (e : List ℕ) (es : List (List ℕ)) → elements (drop at left) ≡ e ∷ es → Slotted e slot
+  pub high : slot ≤ 48
+
+-- s[i..j] holds whole elements
+pub record Part (s : List ℕ) (i j : ℕ) : Type 0 where
+  pub on : i ≤ j
+  pub fits : j ≤ length s
+  pub proper : Proper (elements (take (j - i) (drop i s)))
 
 -- the element left[i..j], and its slot; it is no e-variable without a value
 pub record Single (left : List ℕ) (i j slot : ℕ) (arg : List ℕ) (at : ℕ) (b : List ℕ) (m : ℕ) : Type 0 where

@@ -1,11 +1,11 @@
--- Loops that copy, partAfter and clear: what they have done after i turns.
+-- Loops that copy, move and clear: what they have done after i turns.
 use mathlib.Core.Path.{_≡_, refl, sym, _∙_, ap, subst}
 use mathlib.Core.List.{List, [], _∷_, _++_, append-assoc}
 use Prim.Native.Nat.{ℕ, suc, _+_, _-_, _≤_, _<_}
 use native.Mathlib.Omega.{arith}
 use native.Mathlib.Numerals.{add-one}
-use lib.ListN.{length, getD, take, drop, set, replicate, length-append, length-take, length-drop, length-set, length-replicate, getD-replicate, List·getD-append}
-use lib.Seq.{paste, paste-zero, paste-suc, length-paste-head, getD-append-add, getD-drop, getD-take, take-set-lt, take-suc-set, drop-cons, set-append-left, take-all}
+use lib.ListN.{length, getD, take, drop, set, replicate, length-append, length-take, length-drop, length-set, length-replicate, getD-replicate, List·getD-append, take-append-drop}
+use lib.Seq.{paste, paste-zero, paste-suc, length-paste-head, getD-append-add, getD-drop, getD-take, take-set-lt, take-suc-set, drop-cons, set-append-left, take-all, drop-drop}
 
 -- d is d₀ with i of s's elements pasted in
 pub record Copied (d₀ : List ℕ) (at : ℕ) (s : List ℕ) (n : ℕ) (d : List ℕ) (i : ℕ) : Type 0 where
@@ -136,3 +136,10 @@ module _ (d₀ : List ℕ) (from to : ℕ) (up : from ≤ to) (fits : to ≤ len
 
   pub cleared-long : (d : List ℕ) (i : ℕ) → Cleared d i → length d ≡ length d₀
   cleared-long d i c = c .1 .long
+
+-- what stays in its place
+pub stayed : (s : List ℕ) (from at n : ℕ) → from ≤ at → at ≤ from → s ≡ paste s at (drop from s) n
+stayed s from at n h k =
+    let q : from ≡ at = omega arith in
+    rw q (sym (append-assoc (take at s) (take n (drop at s)) (drop (at + n) s) ∙ ap {B = List ℕ} (λ l. take at s ++ (take n (drop at s) ++ l)) (sym (drop-drop n at s))
+    ∙ ap {B = List ℕ} (λ l. take at s ++ l) (take-append-drop n (drop at s)) ∙ take-append-drop at s))

@@ -1,4 +1,5 @@
 pub mod Argument
-pub mod Put
+pub mod Count
+pub mod Leads
 pub mod Term
 pub mod Step

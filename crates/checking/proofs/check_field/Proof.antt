@@ -6,8 +6,8 @@ use Rattle.checking.proofs.check_field.Tie as tie
 returns : tie.Need-returns
 returns c = too-short (c .before .before .before .args .field .now) (c .before .before .before .args .scratch .now) (c .if1 .taken)
 
-first-bad-requires : tie.Need-first-bad-requires
-first-bad-requires c κs = search needs
+first-bad-in-field-requires : tie.Need-first-bad-in-field-requires
+first-bad-in-field-requires c κs = search needs
 
 clear-requires : tie.Need-clear-requires
 clear-requires c κs = search needs
@@ -19,8 +19,8 @@ returns-2 : tie.Need-returns-2
 returns-2 c =
     let f = c .before .before .before .before .before .before in
     let s = f .before .before .before .before .before in
-    checked (s .args .field .now) (s .args .scratch .now) (f .before .before .if1 .left) (f .first-bad .ensures) (f .first-bad .kept .1 .1 .0) (c .before .before .clear .ensures)
+    checked (s .args .field .now) (s .args .scratch .now) (f .before .before .if1 .left) (f .first-bad-in-field .ensures) (f .first-bad-in-field .kept .1 .0) (c .before .before .clear .ensures)
 
 pub check-field-spec : {M : Type 1} → statement M
 check-field-spec =
-    tie.close (tie.spec returns first-bad-requires clear-requires same-length returns-2)
+    tie.close (tie.spec returns first-bad-in-field-requires clear-requires same-length returns-2)

@@ -1,27 +1,26 @@
 use mathlib.Core.Path.{_≡_, refl, sym, _∙_, ap}
-use mathlib.Core.List.{[]}
 use Prim.Native.Nat.{_-_, _<_}
 use native.Mathlib.Omega.{arith}
 use lib.ListN.{length}
 use borrow.Author.Needs.{needs}
-use Rattle.meaning.specs.Elements.{elements}
-use Rattle.meaning.specs.Goodness.{at as stage, span, stands, partAfter, firstBad}
+use Rattle.meaning.specs.Goodness.{span, stands, partAfter, badProgram}
 use Rattle.checking.specs.Answers.{checkOf}
-use Rattle.checking.specs.Standing.{partOf, nextOf}
+use Rattle.checking.specs.Standing.{partOf, nextOf, Reading}
 use Rattle.checking.proofs.Parts.{leads, fits}
-use Rattle.checking.proofs.Reading.{Reading, begun, ready, stopped, turned, over-good, over-early}
+use Rattle.checking.proofs.Reading.{begun, ready, stopped, turned, over-good, over-early}
+use borrow.Author.Needs.{needs}
 use Rattle.checking.proofs.first_bad.Statement.{statement}
 use Rattle.checking.proofs.first_bad.Tie as tie
 
 abbrev Inv-loop : tie.InvT-loop
-Inv-loop bytes part stack₀ moves at₀ state₀ stack at state =
-    (Reading (firstBad (stage (partOf part) [] 0 []) 0 (elements bytes)) bytes stack at state) × (length stack ≡ length stack₀) × (length bytes < 9223372036854775808)
+Inv-loop program stack₀ moves at₀ state₀ stack at state =
+    Reading (badProgram program) program at state stack × (length stack ≡ length stack₀) × (length program < 9223372036854775808)
 
 abbrev μ-loop : tie.MeasureT-loop
-μ-loop bytes part stack₀ moves at₀ state₀ stack at state = length bytes - at
+μ-loop program stack₀ moves at₀ state₀ stack at state = length program - at
 
 loop-holds : tie.Need-loop-holds Inv-loop μ-loop
-loop-holds c = (begun _ _ _ (c .before .before .pre .0) (c .before .before .pre .1), refl, omega arith)
+loop-holds c = (begun _ _ (c .before .before .pre), refl, omega arith)
 
 item-at-requires : tie.Need-item-at-requires Inv-loop μ-loop
 item-at-requires c κs = c .loop-test .taken
@@ -37,29 +36,23 @@ add-after-2 c = omega (arith, c .body-of .ensures .1, c .before .before .loop-te
 
 take-requires : tie.Need-take-requires Inv-loop μ-loop
 unfolding fits nextOf partOf stands span partAfter
-take-requires c κs = (leads _ tt (omega arith), ready (c .before .before .before .before .before .loop .inv .0) (c .before .before .before .before .loop-test .taken))
+take-requires c κs = (leads _ tt (omega arith), ready (c .before .before .before .before .before .loop .inv .0))
 
 same-length : tie.Need-same-length Inv-loop μ-loop
-same-length c =
-    let t = c .before .before .before .before in
-    t .take .kept .1 .1 .1 .0 ∙ t .before .before .before .before .before .before .loop .inv .1
+same-length c = c .before .before .before .before .take .kept .1 .1 .1 .0 ∙ c .before .before .before .before .before .before .before .before .before .before .loop .inv .1
 
 returns : tie.Need-returns Inv-loop μ-loop
-returns c =
-    let t = c .before .before .before .before in
-    let i = t .before .before .before .before in
-    sym (ap checkOf (stopped (i .before .before .loop .inv .0) (i .before .loop-test .taken) (i .item-at .ensures) (t .take .ensures) (c .if1 .taken)))
+returns c = sym (ap checkOf (stopped (c .before .before .before .before .before .before .before .before .before .before .loop .inv .0) (c .before .before .before .before .before .before .before .before .before .loop-test .taken) (c .before .before .before .before .before .before .before .before .item-at .ensures) (c .before .before .before .before .take .ensures) (c .if1 .taken)))
+
+pass-sentences-requires : tie.Need-pass-sentences-requires Inv-loop μ-loop
+unfolding fits nextOf partOf stands span partAfter
+pass-sentences-requires c κs = let T = (turned (c .before .before .before .before .before .before .before .before .before .before .before .before .loop .inv .0) (c .before .before .before .before .before .before .before .before .before .before .before .loop-test .taken) (c .before .before .before .before .before .before .before .before .before .before .item-at .ensures) (c .before .before .before .before .before .before .take .ensures) (c .before .before .if1 .left) (c .before .before .before .before .before .before .take .kept .1 .1 .1 .0) _ (c .before .before .before .before .before .before .before .before .before .body-of .ensures .0)) in (leads _ tt (omega arith), ready T, T .program, T .inside)
 
 loop-less : tie.Need-loop-less Inv-loop μ-loop
-loop-less c = omega (arith, c .before .before .before .before .before .before .before .before .before .before .loop-test .taken)
+loop-less c = omega (arith, c .before .before .before .before .before .before .before .before .before .before .before .before .before .before .before .loop-test .taken, c .before .before .before .pass-sentences .ensures .0)
 
 loop-again : tie.Need-loop-again Inv-loop μ-loop
-loop-again c =
-    let t = c .before .before .before .before .before in
-    let b = t .before .before .before in
-    let l = b .before .before .before .loop .inv in
-    let k = t .take .kept .1 .1 .1 .0 in
-    (turned (l .0) (b .before .before .loop-test .taken) (b .before .item-at .ensures) (t .take .ensures) (c .before .if1 .left) k _ (b .body-of .ensures .0), k ∙ l .1, l .2)
+loop-again c = (c .before .before .before .pass-sentences .ensures .1 _ (turned (c .before .before .before .before .before .before .before .before .before .before .before .before .before .before .before .before .loop .inv .0) (c .before .before .before .before .before .before .before .before .before .before .before .before .before .before .before .loop-test .taken) (c .before .before .before .before .before .before .before .before .before .before .before .before .before .before .item-at .ensures) (c .before .before .before .before .before .before .before .before .before .before .take .ensures) (c .before .before .before .before .before .before .if1 .left) (c .before .before .before .before .before .before .before .before .before .before .take .kept .1 .1 .1 .0) _ (c .before .before .before .before .before .before .before .before .before .before .before .before .before .body-of .ensures .0)), c .before .before .before .pass-sentences .kept .1 .1 .1 .1 .0 ∙ c .before .before .before .before .before .before .before .before .before .before .take .kept .1 .1 .1 .0 ∙ c .before .before .before .before .before .before .before .before .before .before .before .before .before .before .before .before .loop .inv .1, c .before .before .before .before .before .before .before .before .before .before .before .before .before .before .before .before .loop .inv .2)
 
 may-end-requires : tie.Need-may-end-requires Inv-loop μ-loop
 may-end-requires c κs = search needs
@@ -90,6 +83,7 @@ first-bad-spec =
     take-requires
     same-length
     returns
+    pass-sentences-requires
     loop-less
     loop-again
     may-end-requires

@@ -1,8 +1,9 @@
-use borrow.Author.Needs.{needs}
-use Rattle.elements.proofs.Values.{Comparing, compare-start, compare-proper, compare-on, shared-less, compare-lost, compare-won, lengths-differ}
+use Rattle.elements.specs.Reading.{Comparing}
+use Rattle.elements.proofs.Values.{compare-start, compare-proper, compare-on, shared-less, compare-lost, compare-won, lengths-differ}
 use lib.ListN.{length}
 use Prim.Native.Nat.{_-_}
 use native.Mathlib.Omega.{arith}
+use borrow.Author.Needs.{needs}
 use Rattle.elements.proofs.equal_values.Statement.{statement}
 use Rattle.elements.proofs.equal_values.Tie as tie
 
@@ -15,20 +16,26 @@ abbrev μ-loop : tie.MeasureT-loop
 returns : tie.Need-returns Inv-loop μ-loop
 returns c = lengths-differ _ _ (c .if1 .taken)
 
+shared-characters-requires : tie.Need-shared-characters-requires Inv-loop μ-loop
+shared-characters-requires c κs = compare-start (c .before .before .before .args .a .now) (c .before .before .before .args .b .now) (c .if1 .left) (c .before .before .before .pre)
+
 loop-holds : tie.Need-loop-holds Inv-loop μ-loop
-loop-holds c = compare-start (c .before .before .before .args .a .now) (c .before .before .before .args .b .now) (c .if1 .left) (c .before .before .before .pre)
+loop-holds c = c .shared-characters .ensures .0
 
 shared-end-requires : tie.Need-shared-end-requires Inv-loop μ-loop
-shared-end-requires c κs = compare-proper _ _ _ (c .before .loop .inv) (c .loop-test .taken)
+shared-end-requires c κs = (compare-proper _ _ _ (c .before .loop .inv) (c .loop-test .taken), omega (arith, c .before .loop .inv .long))
 
 enum-known-next : tie.Need-enum-known-next Inv-loop μ-loop
 enum-known-next c = search needs
 
+shared-characters-requires-2 : tie.Need-shared-characters-requires-2 Inv-loop μ-loop
+shared-characters-requires-2 c κs = compare-on _ _ _ _ (c .before .before .before .before .before .loop .inv) (rw (c .before .next .given .1) at (c .before .before .before .shared-end .ensures))
+
 loop-less : tie.Need-loop-less Inv-loop μ-loop
-loop-less c = omega (arith, shared-less _ _ _ _ (rw (c .before .next .given .1) at (c .before .before .before .shared-end .ensures)))
+loop-less c = omega (arith, shared-less _ _ _ _ (rw (c .before .before .next .given .1) at (c .before .before .before .before .shared-end .ensures)), c .shared-characters2 .ensures .1)
 
 loop-again : tie.Need-loop-again Inv-loop μ-loop
-loop-again c = compare-on _ _ _ _ (c .before .before .before .before .before .loop .inv) (rw (c .before .next .given .1) at (c .before .before .before .shared-end .ensures))
+loop-again c = c .shared-characters2 .ensures .0
 
 enum-told : tie.Need-enum-told Inv-loop μ-loop
 enum-told c = search needs
@@ -46,9 +53,11 @@ equal-values-spec =
     Inv-loop
     μ-loop
     returns
+    shared-characters-requires
     loop-holds
     shared-end-requires
     enum-known-next
+    shared-characters-requires-2
     loop-less
     loop-again
     enum-told

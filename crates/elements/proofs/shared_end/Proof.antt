@@ -3,6 +3,15 @@ use borrow.Author.Needs.{needs}
 use Rattle.elements.proofs.shared_end.Statement.{statement}
 use Rattle.elements.proofs.shared_end.Tie as tie
 
+pass-requires : tie.Need-pass-requires
+pass-requires c κs = search needs
+
+shared-bytes-requires : tie.Need-shared-bytes-requires
+shared-bytes-requires c κs = (c .before .before .before .before .before .before .pre .0, c .before .before .before .pass .ensures .next-is, c .before .before .before .before .before .before .pre .1)
+
+returns : tie.Need-returns
+returns c = c .shared-bytes .ensures
+
 read-requires : tie.Need-read-requires
 read-requires c κs = search needs
 
@@ -30,28 +39,31 @@ enum-told-3 c = search needs
 enum-told-4 : tie.Need-enum-told-4
 enum-told-4 c = search needs
 
-returns : tie.Need-returns
-returns c = shared (c .before .before .before .before .before .before .before .before .before .before .before .before .args .a .now) (c .before .before .before .before .before .before .before .before .before .before .before .before .args .b .now) (c .before .before .before .before .before .before .before .before .before .before .before .before .args .at) (c .before .before .before .before .before .before .before .before .before .before .before .before .pre) (rw (c .before .before .before .before .before .before .before .x .given .1) at (c .before .before .before .before .before .before .before .before .before .read .ensures)) (rw (c .before .before .before .y .given .1) at (c .before .before .before .before .before .read2 .ensures)) (rw (c .if1 .taken) at (c .before .same .ensures))
-
 returns-2 : tie.Need-returns-2
-returns-2 c = different (c .before .before .before .before .before .before .before .before .before .before .before .before .args .a .now) (c .before .before .before .before .before .before .before .before .before .before .before .before .args .b .now) (c .before .before .before .before .before .before .before .before .before .before .before .before .args .at) (c .before .before .before .before .before .before .before .before .before .before .before .before .pre) (rw (c .before .before .before .before .before .before .before .x .given .1) at (c .before .before .before .before .before .before .before .before .before .read .ensures)) (rw (c .before .before .before .y .given .1) at (c .before .before .before .before .before .read2 .ensures)) (rw (c .if1 .left) at (c .before .same .ensures))
+returns-2 c = shared (c .before .before .before .before .before .before .before .before .before .before .before .before .before .before .before .args .a .now) (c .before .before .before .before .before .before .before .before .before .before .before .before .before .before .before .args .b .now) (c .before .before .before .before .before .before .before .before .before .before .before .before .before .before .before .args .at) (c .before .before .before .before .before .before .before .before .before .before .before .before .before .before .before .pre .0) (rw (c .before .before .before .before .before .before .before .x .given .1) at (c .before .before .before .before .before .before .before .before .before .read .ensures)) (rw (c .before .before .before .y .given .1) at (c .before .before .before .before .before .read2 .ensures)) (rw (c .if2 .taken) at (c .before .same .ensures))
 
 returns-3 : tie.Need-returns-3
-returns-3 c = b-bad (c .before .before .before .before .before .before .before .before .before .args .a .now) (c .before .before .before .before .before .before .before .before .before .args .b .now) (c .before .before .before .before .before .before .before .before .before .args .at) (c .before .before .before .before .before .before .before .before .before .pre) (rw (c .enum-told .given .1) at (c .before .before .read2 .ensures))
+returns-3 c = different (c .before .before .before .before .before .before .before .before .before .before .before .before .before .before .before .args .a .now) (c .before .before .before .before .before .before .before .before .before .before .before .before .before .before .before .args .b .now) (c .before .before .before .before .before .before .before .before .before .before .before .before .before .before .before .args .at) (c .before .before .before .before .before .before .before .before .before .before .before .before .before .before .before .pre .0) (rw (c .before .before .before .before .before .before .before .x .given .1) at (c .before .before .before .before .before .before .before .before .before .read .ensures)) (rw (c .before .before .before .y .given .1) at (c .before .before .before .before .before .read2 .ensures)) (rw (c .if2 .left) at (c .before .same .ensures))
 
 returns-4 : tie.Need-returns-4
-returns-4 c = b-over (c .before .before .before .before .before .before .before .before .before .args .a .now) (c .before .before .before .before .before .before .before .before .before .args .b .now) (c .before .before .before .before .before .before .before .before .before .args .at) (c .before .before .before .before .before .before .before .before .before .pre) (rw (c .enum-told2 .given .1) at (c .before .before .read2 .ensures))
+returns-4 c = b-bad (c .before .before .before .before .before .before .before .before .before .before .before .before .args .a .now) (c .before .before .before .before .before .before .before .before .before .before .before .before .args .b .now) (c .before .before .before .before .before .before .before .before .before .before .before .before .args .at) (c .before .before .before .before .before .before .before .before .before .before .before .before .pre .0) (rw (c .enum-told .given .1) at (c .before .before .read2 .ensures))
 
 returns-5 : tie.Need-returns-5
-returns-5 c = absurd (a-not-bad (c .before .before .before .before .before .args .a .now) (c .before .before .before .before .before .args .b .now) (c .before .before .before .before .before .args .at) (c .before .before .before .before .before .pre) (rw (c .enum-told3 .given .1) at (c .before .before .read .ensures)))
+returns-5 c = b-over (c .before .before .before .before .before .before .before .before .before .before .before .before .args .a .now) (c .before .before .before .before .before .before .before .before .before .before .before .before .args .b .now) (c .before .before .before .before .before .before .before .before .before .before .before .before .args .at) (c .before .before .before .before .before .before .before .before .before .before .before .before .pre .0) (rw (c .enum-told2 .given .1) at (c .before .before .read2 .ensures))
 
 returns-6 : tie.Need-returns-6
-returns-6 c = absurd (a-not-over (c .before .before .before .before .before .args .a .now) (c .before .before .before .before .before .args .b .now) (c .before .before .before .before .before .args .at) (c .before .before .before .before .before .pre) (rw (c .enum-told4 .given .1) at (c .before .before .read .ensures)))
+returns-6 c = absurd (a-not-bad (c .before .before .before .before .before .before .before .before .args .a .now) (c .before .before .before .before .before .before .before .before .args .b .now) (c .before .before .before .before .before .before .before .before .args .at) (c .before .before .before .before .before .before .before .before .pre .0) (rw (c .enum-told3 .given .1) at (c .before .before .read .ensures)))
+
+returns-7 : tie.Need-returns-7
+returns-7 c = absurd (a-not-over (c .before .before .before .before .before .before .before .before .args .a .now) (c .before .before .before .before .before .before .before .before .args .b .now) (c .before .before .before .before .before .before .before .before .args .at) (c .before .before .before .before .before .before .before .before .pre .0) (rw (c .enum-told4 .given .1) at (c .before .before .read .ensures)))
 
 pub shared-end-spec : {M : Type 1} → statement M
 shared-end-spec =
     tie.close
     (tie.spec
+    pass-requires
+    shared-bytes-requires
+    returns
     read-requires
     enum-known-x
     read-requires-2
@@ -61,9 +73,9 @@ shared-end-spec =
     enum-told-2
     enum-told-3
     enum-told-4
-    returns
     returns-2
     returns-3
     returns-4
     returns-5
-    returns-6)
+    returns-6
+    returns-7)

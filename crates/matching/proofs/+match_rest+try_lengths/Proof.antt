@@ -1,13 +1,10 @@
-use Rattle.matching.proofs.Lengths.{Trying, trying-start, takes-all, trying-long, trying-level, trying-ready, trying-found, trying-on, trying-over, term-less}
-use Rattle.matching.proofs.Going.{Going, going-start, going-lost, going-ends, going-over, read-on, read-not-bad, read-not-over, slot-high, single-here, fresh-ready, fresh-seek, going-stuck, going-on}
+use Rattle.matching.proofs.Lengths.{Trying, trying-start, takes-all, trying-long, trying-level, trying-ready, trying-found, trying-on, trying-over, trying-next, trying-barred, term-less, skipped-on}
+use Rattle.matching.proofs.Going.{left-proper, next-here, Going, going-start, going-lost, going-ends, going-over, going-left, single-here, fresh-ready, fresh-seek, going-stuck, going-on}
 use Rattle.matching.proofs.Slots.{kept-self}
-use borrow.Author.Needs.{needs}
-use Rattle.matching.proofs.Lengths.{Trying, trying-start, takes-all, trying-level, trying-ready, trying-found, trying-on, trying-over, term-less}
-use Rattle.matching.proofs.Going.{Going, going-start, going-lost, going-ends, going-over, read-on, slot-high, single-here, fresh-ready, fresh-seek, going-stuck, going-on}
 use lib.ListN.{length}
 use native.Mathlib.Omega.{arith}
-use Prim.Native.Nat.{_+_, _-_, _*_}
-use Prim.Native.Nat.{ℕ, _<_}
+use borrow.Author.Needs.{needs}
+use Prim.Native.Nat.{ℕ, _+_, _-_, _*_, _<_}
 use borrow.Fn.Kinds.{In}
 use borrow.Fn.PlainCycle.{Measures, is, falls, and}
 use Rattle.matching.proofs.match_rest.Reads as match-rest
@@ -16,12 +13,14 @@ use Rattle.matching.proofs.+match_rest+try_lengths.Lts-match_rest as ma
 use Rattle.matching.proofs.try_lengths.Reads as try-lengths
 use Rattle.matching.proofs.try_lengths.Kinds as try-lengths-kinds
 use Rattle.matching.proofs.+match_rest+try_lengths.Lts-try_lengths as try-lengths-lts
-use Rattle.elements.proofs.Cursor.read.Reads as read-reads
+use Rattle.elements.proofs.Cursor.pass.Reads as pass-reads
 use Rattle.elements.proofs.term_end.Reads as term-end-reads
+use Rattle.matching.proofs.foresee.Reads as foresee-reads
 use Rattle.matching.proofs.is_fresh_e.Reads as is-fresh-e-reads
+use Rattle.matching.proofs.next_end.Reads as next-end-reads
 use Rattle.matching.proofs.only_end.Reads as only-end-reads
 use Rattle.matching.proofs.settle.Reads as settle-reads
-use Rattle.matching.proofs.slot_of.Reads as slot-of-reads
+use Rattle.matching.proofs.slot_at.Reads as slot-at-reads
 use Rattle.matching.proofs.+match_rest+try_lengths.{statement}
 use Rattle.matching.proofs.+match_rest+try_lengths.Tie.{close}
 
@@ -48,10 +47,10 @@ try-lengths-below t =
     and 3 try-lengths-kinds.ps (falls 3 try-lengths-kinds.ps _<_ μ-try-lengths t) try-lengths.Pre
 
 abbrev match-rest-calls : ℕ → match-rest-lts.Claims
-match-rest-calls t = (read-reads.Asked, read-reads.Learnt, slot-of-reads.Asked, slot-of-reads.Learnt, is-fresh-e-reads.Asked, is-fresh-e-reads.Learnt, try-lengths-below t, try-lengths.Post, only-end-reads.Asked, only-end-reads.Learnt, settle-reads.Asked, settle-reads.Learnt)
+match-rest-calls t = (pass-reads.Asked, pass-reads.Learnt, slot-at-reads.Asked, slot-at-reads.Learnt, is-fresh-e-reads.Asked, is-fresh-e-reads.Learnt, try-lengths-below t, try-lengths.Post, only-end-reads.Asked, only-end-reads.Learnt, settle-reads.Asked, settle-reads.Learnt)
 
 abbrev try-lengths-calls : ℕ → try-lengths-lts.Claims
-try-lengths-calls t = (settle-reads.Asked, settle-reads.Learnt, match-rest-below t, match-rest.Post, term-end-reads.Asked, term-end-reads.Learnt)
+try-lengths-calls t = (settle-reads.Asked, settle-reads.Learnt, foresee-reads.Asked, foresee-reads.Learnt, next-end-reads.Asked, next-end-reads.Learnt, match-rest-below t, match-rest.Post, term-end-reads.Asked, term-end-reads.Learnt)
 
 abbrev match-rest-Inv-loop : match-rest-lts.InvT-loop
 match-rest-Inv-loop left i arg at binds₀ settled here₀ place₀ known₀ binds here place known = Going left i arg at binds₀ settled here place binds known
@@ -62,41 +61,38 @@ match-rest-μ-loop left i arg at binds₀ settled here₀ place₀ known₀ bind
 match-rest-loop-holds : (t : ℕ) → match-rest-lts.Need-loop-holds (match-rest-calls t) (match-rest-at t) match-rest.Post match-rest-Inv-loop match-rest-μ-loop
 match-rest-loop-holds t c = going-start (c .before .before .before .pre .1)
 
-match-rest-read-requires : (t : ℕ) → match-rest-lts.Need-read-requires (match-rest-calls t) (match-rest-at t) match-rest.Post match-rest-Inv-loop match-rest-μ-loop
-match-rest-read-requires t c κs = search needs
+match-rest-pass-requires : (t : ℕ) → match-rest-lts.Need-pass-requires (match-rest-calls t) (match-rest-at t) match-rest.Post match-rest-Inv-loop match-rest-μ-loop
+match-rest-pass-requires t c κs = left-proper (going-left (c .before .loop .inv) (c .loop-test .taken))
 
-match-rest-enum-known-x : (t : ℕ) → match-rest-lts.Need-enum-known-x (match-rest-calls t) (match-rest-at t) match-rest.Post match-rest-Inv-loop match-rest-μ-loop
-match-rest-enum-known-x t c = search needs
-
-match-rest-slot-of-requires : (t : ℕ) → match-rest-lts.Need-slot-of-requires (match-rest-calls t) (match-rest-at t) match-rest.Post match-rest-Inv-loop match-rest-μ-loop
-match-rest-slot-of-requires t c κs = search needs
+match-rest-slot-at-requires : (t : ℕ) → match-rest-lts.Need-slot-at-requires (match-rest-calls t) (match-rest-at t) match-rest.Post match-rest-Inv-loop match-rest-μ-loop
+match-rest-slot-at-requires t c κs = ((going-left (c .before .before .before .loop .inv) (c .before .before .loop-test .taken)), c .before .pass .ensures .kind-is)
 
 match-rest-is-fresh-e-requires : (t : ℕ) → match-rest-lts.Need-is-fresh-e-requires (match-rest-calls t) (match-rest-at t) match-rest.Post match-rest-Inv-loop match-rest-μ-loop
-match-rest-is-fresh-e-requires t c κs = omega (arith, c .slot-of .ensures, slot-high (c .before .before .before .before .before .before .loop .inv) _ _ (rw (c .before .before .x .given .1) at (c .before .before .before .before .read .ensures)))
+match-rest-is-fresh-e-requires t c κs = c .slot-at .ensures .high
 
 match-rest-try-lengths-requires : (t : ℕ) → match-rest-lts.Need-try-lengths-requires (match-rest-calls t) (match-rest-at t) match-rest.Post match-rest-Inv-loop match-rest-μ-loop
-match-rest-try-lengths-requires t c κs = (omega (arith, c .before .before .before .before .before .before .before .before .before .before .before .before .before .pre .0, read-on (c .before .before .before .before .before .before .before .before .before .loop .inv) _ _ (rw (c .before .before .before .before .before .x .given .1) at (c .before .before .before .before .before .before .before .read .ensures)) (rw (c .before .before .before .before .before .x .given .1) at (c .before .before .before .before .before .before .before .read .ensures)), c .before .before .before .before .before .before .before .before .before .loop .inv .on, c .before .before .before .before .before .before .before .before .loop-test .taken), (fresh-ready (c .before .before .before .before .before .before .before .before .before .loop .inv) _ _ (rw (c .before .before .before .before .before .x .given .1) at (c .before .before .before .before .before .before .before .read .ensures)) (rw (c .before .before .before .slot-of .ensures) at (rw (c .before .if1 .taken) at (c .before .before .is-fresh-e .ensures))), (rw (c .before .if1 .taken) at (c .before .before .is-fresh-e .ensures))))
+match-rest-try-lengths-requires t c κs = (omega (arith, c .before .before .before .before .before .before .before .before .before .before .before .pre .0, (next-here (going-left (c .before .before .before .before .before .before .before .loop .inv) (c .before .before .before .before .before .before .loop-test .taken)) (c .before .before .before .before .before .pass .ensures) (c .before .before .before .slot-at .ensures)) .on, (c .before .before .before .before .before .before .before .loop .inv) .on, c .before .before .before .before .before .before .loop-test .taken), (fresh-ready (c .before .before .before .before .before .before .before .loop .inv) (next-here (going-left (c .before .before .before .before .before .before .before .loop .inv) (c .before .before .before .before .before .before .loop-test .taken)) (c .before .before .before .before .before .pass .ensures) (c .before .before .before .slot-at .ensures)) (rw (c .before .if1 .taken) at (c .before .before .is-fresh-e .ensures)), (rw (c .before .if1 .taken) at (c .before .before .is-fresh-e .ensures))))
 
 match-rest-same-length : (t : ℕ) → match-rest-lts.Need-same-length (match-rest-calls t) (match-rest-at t) match-rest.Post match-rest-Inv-loop match-rest-μ-loop
 match-rest-same-length t c = search needs
 
 match-rest-returns : (t : ℕ) → match-rest-lts.Need-returns (match-rest-calls t) (match-rest-at t) match-rest.Post match-rest-Inv-loop match-rest-μ-loop
-match-rest-returns t c = going-ends (c .before .before .before .before .before .before .before .before .before .before .before .before .loop .inv) (rw (fresh-seek (c .before .before .before .before .before .before .before .before .before .before .before .before .loop .inv) _ _ (rw (c .before .before .before .before .before .before .before .before .x .given .1) at (c .before .before .before .before .before .before .before .before .before .before .read .ensures)) (rw (c .before .before .before .before .before .before .slot-of .ensures) at (rw (c .before .before .before .before .if1 .taken) at (c .before .before .before .before .before .is-fresh-e .ensures))), ← c .before .before .before .before .before .before .slot-of .ensures) (c .before .before .try-lengths .ensures))
+match-rest-returns t c = going-ends (c .before .before .before .before .before .before .before .before .before .before .loop .inv) (rw (fresh-seek (c .before .before .before .before .before .before .before .before .before .before .loop .inv) (next-here (going-left (c .before .before .before .before .before .before .before .before .before .before .loop .inv) (c .before .before .before .before .before .before .before .before .before .loop-test .taken)) (c .before .before .before .before .before .before .before .before .pass .ensures) (c .before .before .before .before .before .before .slot-at .ensures)) (rw (c .before .before .before .before .if1 .taken) at (c .before .before .before .before .before .is-fresh-e .ensures))) (c .before .before .try-lengths .ensures))
 
 match-rest-only-end-requires : (t : ℕ) → match-rest-lts.Need-only-end-requires (match-rest-calls t) (match-rest-at t) match-rest.Post match-rest-Inv-loop match-rest-μ-loop
-match-rest-only-end-requires t c κs = rw (c .before .before .before .slot-of .ensures) (single-here (c .before .before .before .before .before .before .before .before .before .loop .inv) _ _ (rw (c .before .before .before .before .before .x .given .1) at (c .before .before .before .before .before .before .before .read .ensures)) (rw (c .before .before .before .slot-of .ensures) at (rw (c .before .if1 .left) at (c .before .before .is-fresh-e .ensures))))
+match-rest-only-end-requires t c κs = single-here (c .before .before .before .before .before .before .before .loop .inv) (next-here (going-left (c .before .before .before .before .before .before .before .loop .inv) (c .before .before .before .before .before .before .loop-test .taken)) (c .before .before .before .before .before .pass .ensures) (c .before .before .before .slot-at .ensures)) (rw (c .before .if1 .left) at (c .before .before .is-fresh-e .ensures))
 
 match-rest-enum-known-end : (t : ℕ) → match-rest-lts.Need-enum-known-end (match-rest-calls t) (match-rest-at t) match-rest.Post match-rest-Inv-loop match-rest-μ-loop
 match-rest-enum-known-end t c = search needs
 
 match-rest-settle-requires : (t : ℕ) → match-rest-lts.Need-settle-requires (match-rest-calls t) (match-rest-at t) match-rest.Post match-rest-Inv-loop match-rest-μ-loop
-match-rest-settle-requires t c κs = record { long = c .before .before .before .before .before .before .before .before .before .before .before .before .before .before .loop .inv .ready .table .long; high = omega (arith, c .before .before .before .before .before .before .before .before .slot-of .ensures, slot-high (c .before .before .before .before .before .before .before .before .before .before .before .before .before .before .loop .inv) _ _ (rw (c .before .before .before .before .before .before .before .before .before .before .x .given .1) at (c .before .before .before .before .before .before .before .before .before .before .before .before .read .ensures))) }
+match-rest-settle-requires t c κs = record { long = (c .before .before .before .before .before .before .before .before .before .before .before .before .loop .inv) .ready .table .long; high = c .before .before .before .before .before .before .before .before .slot-at .ensures .high }
 
 match-rest-loop-less : (t : ℕ) → match-rest-lts.Need-loop-less (match-rest-calls t) (match-rest-at t) match-rest.Post match-rest-Inv-loop match-rest-μ-loop
-match-rest-loop-less t c = omega (arith, read-on (c .before .before .before .before .before .before .before .before .before .before .before .before .before .before .before .before .before .loop .inv) _ _ (rw (c .before .before .before .before .before .before .before .before .before .before .before .before .before .x .given .1) at (c .before .before .before .before .before .before .before .before .before .before .before .before .before .before .before .read .ensures)) (rw (c .before .before .before .before .before .before .before .before .before .before .before .before .before .x .given .1) at (c .before .before .before .before .before .before .before .before .before .before .before .before .before .before .before .read .ensures)), c .before .before .before .before .before .before .before .before .before .before .before .before .before .before .before .before .loop-test .taken)
+match-rest-loop-less t c = omega (arith, (next-here (going-left (c .before .before .before .before .before .before .before .before .before .before .before .before .before .before .before .loop .inv) (c .before .before .before .before .before .before .before .before .before .before .before .before .before .before .loop-test .taken)) (c .before .before .before .before .before .before .before .before .before .before .before .before .before .pass .ensures) (c .before .before .before .before .before .before .before .before .before .before .before .slot-at .ensures)) .on, c .before .before .before .before .before .before .before .before .before .before .before .before .before .before .loop-test .taken)
 
 match-rest-loop-again : (t : ℕ) → match-rest-lts.Need-loop-again (match-rest-calls t) (match-rest-at t) match-rest.Post match-rest-Inv-loop match-rest-μ-loop
-match-rest-loop-again t c = going-on (c .before .before .before .before .before .before .before .before .before .before .before .before .before .before .before .before .before .loop .inv) _ _ (rw (c .before .before .before .before .before .before .before .before .before .before .before .before .before .x .given .1) at (c .before .before .before .before .before .before .before .before .before .before .before .before .before .before .before .read .ensures)) _ (rw (c .before .before .before .before .before .end .given .1) at (c .before .before .before .before .before .before .before .only-end .ensures)) (rw (c .before .before .before .before .before .before .before .before .before .before .before .slot-of .ensures) at (c .before .before .settle .ensures))
+match-rest-loop-again t c = going-on (c .before .before .before .before .before .before .before .before .before .before .before .before .before .before .before .loop .inv) (next-here (going-left (c .before .before .before .before .before .before .before .before .before .before .before .before .before .before .before .loop .inv) (c .before .before .before .before .before .before .before .before .before .before .before .before .before .before .loop-test .taken)) (c .before .before .before .before .before .before .before .before .before .before .before .before .before .pass .ensures) (c .before .before .before .before .before .before .before .before .before .before .before .slot-at .ensures)) _ (rw (c .before .before .before .before .before .end .given .1) at (c .before .before .before .before .before .before .before .only-end .ensures)) (c .before .before .settle .ensures)
 
 match-rest-enum-told : (t : ℕ) → match-rest-lts.Need-enum-told (match-rest-calls t) (match-rest-at t) match-rest.Post match-rest-Inv-loop match-rest-μ-loop
 match-rest-enum-told t c = search needs
@@ -105,37 +101,19 @@ match-rest-same-length-2 : (t : ℕ) → match-rest-lts.Need-same-length-2 (matc
 match-rest-same-length-2 t c = search needs
 
 match-rest-returns-2 : (t : ℕ) → match-rest-lts.Need-returns-2 (match-rest-calls t) (match-rest-at t) match-rest.Post match-rest-Inv-loop match-rest-μ-loop
-match-rest-returns-2 t c = going-lost (c .before .before .before .before .before .before .before .before .before .before .before .before .loop .inv) (going-stuck (c .before .before .before .before .before .before .before .before .before .before .before .before .loop .inv) _ _ (rw (c .before .before .before .before .before .before .before .before .x .given .1) at (c .before .before .before .before .before .before .before .before .before .before .read .ensures)) ((rw (c .enum-told .given .1) at (c .before .before .only-end .ensures)) .ways)) (kept-self _ _)
-
-match-rest-enum-told-2 : (t : ℕ) → match-rest-lts.Need-enum-told-2 (match-rest-calls t) (match-rest-at t) match-rest.Post match-rest-Inv-loop match-rest-μ-loop
-match-rest-enum-told-2 t c = search needs
+match-rest-returns-2 t c = going-lost (c .before .before .before .before .before .before .before .before .before .before .loop .inv) (going-stuck (c .before .before .before .before .before .before .before .before .before .before .loop .inv) (next-here (going-left (c .before .before .before .before .before .before .before .before .before .before .loop .inv) (c .before .before .before .before .before .before .before .before .before .loop-test .taken)) (c .before .before .before .before .before .before .before .before .pass .ensures) (c .before .before .before .before .before .before .slot-at .ensures)) ((rw (c .enum-told .given .1) at (c .before .before .only-end .ensures)) .ways)) (kept-self _ _)
 
 match-rest-same-length-3 : (t : ℕ) → match-rest-lts.Need-same-length-3 (match-rest-calls t) (match-rest-at t) match-rest.Post match-rest-Inv-loop match-rest-μ-loop
 match-rest-same-length-3 t c = search needs
 
 match-rest-returns-3 : (t : ℕ) → match-rest-lts.Need-returns-3 (match-rest-calls t) (match-rest-at t) match-rest.Post match-rest-Inv-loop match-rest-μ-loop
-match-rest-returns-3 t c = absurd (read-not-bad (c .before .before .before .before .loop .inv) (c .before .before .before .loop-test .taken) (rw (c .enum-told2 .given .1) at (c .before .before .read .ensures)))
-
-match-rest-enum-told-3 : (t : ℕ) → match-rest-lts.Need-enum-told-3 (match-rest-calls t) (match-rest-at t) match-rest.Post match-rest-Inv-loop match-rest-μ-loop
-match-rest-enum-told-3 t c = search needs
-
-match-rest-same-length-4 : (t : ℕ) → match-rest-lts.Need-same-length-4 (match-rest-calls t) (match-rest-at t) match-rest.Post match-rest-Inv-loop match-rest-μ-loop
-match-rest-same-length-4 t c = search needs
-
-match-rest-returns-4 : (t : ℕ) → match-rest-lts.Need-returns-4 (match-rest-calls t) (match-rest-at t) match-rest.Post match-rest-Inv-loop match-rest-μ-loop
-match-rest-returns-4 t c = absurd (read-not-over (c .before .before .before .before .loop .inv) (c .before .before .before .loop-test .taken) (rw (c .enum-told3 .given .1) at (c .before .before .read .ensures)))
-
-match-rest-same-length-5 : (t : ℕ) → match-rest-lts.Need-same-length-5 (match-rest-calls t) (match-rest-at t) match-rest.Post match-rest-Inv-loop match-rest-μ-loop
-match-rest-same-length-5 t c = search needs
-
-match-rest-returns-5 : (t : ℕ) → match-rest-lts.Need-returns-5 (match-rest-calls t) (match-rest-at t) match-rest.Post match-rest-Inv-loop match-rest-μ-loop
-match-rest-returns-5 t c = going-over (c .before .loop .inv) (omega arith)
+match-rest-returns-3 t c = going-over (c .before .loop .inv) (omega arith)
 
 abbrev try-lengths-Inv-loop : try-lengths-lts.InvT-loop
-try-lengths-Inv-loop left j arg at binds₀ settled slot end₀ binds end = Trying left j arg at binds₀ settled slot end binds
+try-lengths-Inv-loop left j arg at binds₀ settled slot w from₀ binds from = Trying left j arg at binds₀ settled slot from binds
 
 abbrev try-lengths-μ-loop : try-lengths-lts.MeasureT-loop
-try-lengths-μ-loop left j arg at binds₀ settled slot end₀ binds end = length arg - end
+try-lengths-μ-loop left j arg at binds₀ settled slot w from₀ binds from = length arg - from
 
 try-lengths-settle-requires : (t : ℕ) → try-lengths-lts.Need-settle-requires (try-lengths-calls t) (try-lengths-at t) try-lengths.Post try-lengths-Inv-loop try-lengths-μ-loop
 try-lengths-settle-requires t c κs = record { long = c .before .before .before .before .before .pre .1 .0 .table .long; high = omega (arith, c .before .before .before .before .before .pre .1 .1 .high) }
@@ -146,51 +124,69 @@ try-lengths-same-length t c = search needs
 try-lengths-returns : (t : ℕ) → try-lengths-lts.Need-returns (try-lengths-calls t) (try-lengths-at t) try-lengths.Post try-lengths-Inv-loop try-lengths-μ-loop
 try-lengths-returns t c = takes-all (c .before .before .before .before .before .before .before .before .pre .1 .0) (c .before .before .before .before .before .before .before .before .pre .1 .1) (c .before .before .before .before .if1 .taken) (c .before .before .settle .ensures)
 
+try-lengths-foresee-requires : (t : ℕ) → try-lengths-lts.Need-foresee-requires (try-lengths-calls t) (try-lengths-at t) try-lengths.Post try-lengths-Inv-loop try-lengths-μ-loop
+try-lengths-foresee-requires t c κs = (record { depth = c .before .before .before .before .before .pre .1 .0 .depth; inside = omega (arith, c .before .before .before .before .before .pre .1 .0 .left-fits, c .before .if1 .left); left-side = c .before .before .before .before .before .pre .1 .0 .left-side }, c .before .before .before .before .before .pre .1 .0, c .before .before .before .before .before .pre .1 .1)
+
 try-lengths-loop-holds : (t : ℕ) → try-lengths-lts.Need-loop-holds (try-lengths-calls t) (try-lengths-at t) try-lengths.Post try-lengths-Inv-loop try-lengths-μ-loop
-try-lengths-loop-holds t c = trying-start (c .before .before .before .before .pre .1 .0) (c .before .before .before .before .pre .1 .1)
+try-lengths-loop-holds t c = trying-start (c .before .before .before .before .before .before .pre .1 .0) (c .before .before .before .before .before .before .pre .1 .1)
 
-try-lengths-settle-requires-2 : (t : ℕ) → try-lengths-lts.Need-settle-requires-2 (try-lengths-calls t) (try-lengths-at t) try-lengths.Post try-lengths-Inv-loop try-lengths-μ-loop
-try-lengths-settle-requires-2 t c κs = record { long = trying-long (c .before .loop .inv); high = omega (arith, c .before .before .before .before .before .before .pre .1 .1 .high) }
+try-lengths-next-end-requires : (t : ℕ) → try-lengths-lts.Need-next-end-requires (try-lengths-calls t) (try-lengths-at t) try-lengths.Post try-lengths-Inv-loop try-lengths-μ-loop
+try-lengths-next-end-requires t c κs = (trying-level (c .loop .inv), c .before .foresee .ensures .usable)
 
-try-lengths-match-rest-requires : (t : ℕ) → try-lengths-lts.Need-match-rest-requires (try-lengths-calls t) (try-lengths-at t) try-lengths.Post try-lengths-Inv-loop try-lengths-μ-loop
-try-lengths-match-rest-requires t c κs = (omega (arith, c .before .before .before .before .before .before .before .before .before .before .pre .0), trying-ready (c .before .before .before .before .before .loop .inv) (c .before .before .before .settle2 .ensures))
+try-lengths-enum-known-end : (t : ℕ) → try-lengths-lts.Need-enum-known-end (try-lengths-calls t) (try-lengths-at t) try-lengths.Post try-lengths-Inv-loop try-lengths-μ-loop
+try-lengths-enum-known-end t c = search needs
+
+try-lengths-enum-told : (t : ℕ) → try-lengths-lts.Need-enum-told (try-lengths-calls t) (try-lengths-at t) try-lengths.Post try-lengths-Inv-loop try-lengths-μ-loop
+try-lengths-enum-told t c = search needs
 
 try-lengths-same-length-2 : (t : ℕ) → try-lengths-lts.Need-same-length-2 (try-lengths-calls t) (try-lengths-at t) try-lengths.Post try-lengths-Inv-loop try-lengths-μ-loop
 try-lengths-same-length-2 t c = search needs
 
 try-lengths-returns-2 : (t : ℕ) → try-lengths-lts.Need-returns-2 (try-lengths-calls t) (try-lengths-at t) try-lengths.Post try-lengths-Inv-loop try-lengths-μ-loop
-try-lengths-returns-2 t c = trying-found (c .before .before .before .before .before .before .before .before .before .loop .inv) (c .before .before .before .before .before .before .before .settle2 .ensures) (rw (c .if2 .taken) at (c .before .before .before .match-rest .ensures))
+try-lengths-returns-2 t c = trying-barred (c .before .before .before .loop .inv) (c .before .before .before .before .foresee .ensures) (rw (c .enum-told .given .1) at (c .before .before .next-end .ensures))
 
-try-lengths-term-end-requires : (t : ℕ) → try-lengths-lts.Need-term-end-requires (try-lengths-calls t) (try-lengths-at t) try-lengths.Post try-lengths-Inv-loop try-lengths-μ-loop
-try-lengths-term-end-requires t c κs = trying-level (c .before .before .before .before .before .before .before .before .before .loop .inv)
+try-lengths-settle-requires-2 : (t : ℕ) → try-lengths-lts.Need-settle-requires-2 (try-lengths-calls t) (try-lengths-at t) try-lengths.Post try-lengths-Inv-loop try-lengths-μ-loop
+try-lengths-settle-requires-2 t c κs = record { long = trying-long (c .before .before .before .before .before .loop .inv); high = omega (arith, c .before .before .before .before .before .before .before .before .before .before .before .before .pre .1 .1 .high) }
 
-try-lengths-enum-known-next : (t : ℕ) → try-lengths-lts.Need-enum-known-next (try-lengths-calls t) (try-lengths-at t) try-lengths.Post try-lengths-Inv-loop try-lengths-μ-loop
-try-lengths-enum-known-next t c = search needs
-
-try-lengths-loop-less : (t : ℕ) → try-lengths-lts.Need-loop-less (try-lengths-calls t) (try-lengths-at t) try-lengths.Post try-lengths-Inv-loop try-lengths-μ-loop
-try-lengths-loop-less t c = omega (arith, term-less (rw (c .before .next .given .1) at (c .before .before .before .term-end .ensures)))
-
-try-lengths-loop-again : (t : ℕ) → try-lengths-lts.Need-loop-again (try-lengths-calls t) (try-lengths-at t) try-lengths.Post try-lengths-Inv-loop try-lengths-μ-loop
-try-lengths-loop-again t c = trying-on (c .before .before .before .before .before .before .before .before .before .before .before .before .before .loop .inv) (c .before .before .before .before .before .before .before .before .before .before .before .settle2 .ensures) _ (rw (c .before .before .before .before .if2 .left) at (c .before .before .before .before .before .before .before .match-rest .ensures)) (rw (c .before .next .given .1) at (c .before .before .before .term-end .ensures))
-
-try-lengths-enum-told : (t : ℕ) → try-lengths-lts.Need-enum-told (try-lengths-calls t) (try-lengths-at t) try-lengths.Post try-lengths-Inv-loop try-lengths-μ-loop
-try-lengths-enum-told t c = search needs
+try-lengths-match-rest-requires : (t : ℕ) → try-lengths-lts.Need-match-rest-requires (try-lengths-calls t) (try-lengths-at t) try-lengths.Post try-lengths-Inv-loop try-lengths-μ-loop
+try-lengths-match-rest-requires t c κs = (omega (arith, c .before .before .before .before .before .before .before .before .before .before .before .before .before .before .before .before .pre .0), trying-ready (trying-next (c .before .before .before .before .before .before .before .before .before .loop .inv) (c .before .before .before .before .before .before .before .before .before .before .foresee .ensures) (rw (c .before .before .before .before .before .before .end .given .1) at (c .before .before .before .before .before .before .before .before .next-end .ensures))) (c .before .before .before .settle2 .ensures))
 
 try-lengths-same-length-3 : (t : ℕ) → try-lengths-lts.Need-same-length-3 (try-lengths-calls t) (try-lengths-at t) try-lengths.Post try-lengths-Inv-loop try-lengths-μ-loop
 try-lengths-same-length-3 t c = search needs
 
 try-lengths-returns-3 : (t : ℕ) → try-lengths-lts.Need-returns-3 (try-lengths-calls t) (try-lengths-at t) try-lengths.Post try-lengths-Inv-loop try-lengths-μ-loop
-try-lengths-returns-3 t c = trying-over (c .before .before .before .before .before .before .before .before .before .before .before .before .loop .inv) (c .before .before .before .before .before .before .before .before .before .before .settle2 .ensures) (rw (c .before .before .before .if2 .left) at (c .before .before .before .before .before .before .match-rest .ensures)) (rw (c .enum-told .given .1) at (c .before .before .term-end .ensures))
+try-lengths-returns-3 t c = trying-found (trying-next (c .before .before .before .before .before .before .before .before .before .before .before .before .before .loop .inv) (c .before .before .before .before .before .before .before .before .before .before .before .before .before .before .foresee .ensures) (rw (c .before .before .before .before .before .before .before .before .before .before .end .given .1) at (c .before .before .before .before .before .before .before .before .before .before .before .before .next-end .ensures))) (c .before .before .before .before .before .before .before .settle2 .ensures) (rw (c .if2 .taken) at (c .before .before .before .match-rest .ensures))
+
+try-lengths-term-end-requires : (t : ℕ) → try-lengths-lts.Need-term-end-requires (try-lengths-calls t) (try-lengths-at t) try-lengths.Post try-lengths-Inv-loop try-lengths-μ-loop
+try-lengths-term-end-requires t c κs = trying-level (trying-next (c .before .before .before .before .before .before .before .before .before .before .before .before .before .loop .inv) (c .before .before .before .before .before .before .before .before .before .before .before .before .before .before .foresee .ensures) (rw (c .before .before .before .before .before .before .before .before .before .before .end .given .1) at (c .before .before .before .before .before .before .before .before .before .before .before .before .next-end .ensures)))
+
+try-lengths-enum-known-next : (t : ℕ) → try-lengths-lts.Need-enum-known-next (try-lengths-calls t) (try-lengths-at t) try-lengths.Post try-lengths-Inv-loop try-lengths-μ-loop
+try-lengths-enum-known-next t c = search needs
+
+try-lengths-loop-less : (t : ℕ) → try-lengths-lts.Need-loop-less (try-lengths-calls t) (try-lengths-at t) try-lengths.Post try-lengths-Inv-loop try-lengths-μ-loop
+try-lengths-loop-less t c = omega (arith, skipped-on (rw (c .before .before .before .before .before .before .before .before .before .before .before .before .before .before .end .given .1) at (c .before .before .before .before .before .before .before .before .before .before .before .before .before .before .before .before .next-end .ensures)), term-less (rw (c .before .next .given .1) at (c .before .before .before .term-end .ensures)))
+
+try-lengths-loop-again : (t : ℕ) → try-lengths-lts.Need-loop-again (try-lengths-calls t) (try-lengths-at t) try-lengths.Post try-lengths-Inv-loop try-lengths-μ-loop
+try-lengths-loop-again t c = trying-on (trying-next (c .before .before .before .before .before .before .before .before .before .before .before .before .before .before .before .before .before .loop .inv) (c .before .before .before .before .before .before .before .before .before .before .before .before .before .before .before .before .before .before .foresee .ensures) (rw (c .before .before .before .before .before .before .before .before .before .before .before .before .before .before .end .given .1) at (c .before .before .before .before .before .before .before .before .before .before .before .before .before .before .before .before .next-end .ensures))) (c .before .before .before .before .before .before .before .before .before .before .before .settle2 .ensures) _ (rw (c .before .before .before .before .if2 .left) at (c .before .before .before .before .before .before .before .match-rest .ensures)) (rw (c .before .next .given .1) at (c .before .before .before .term-end .ensures))
+
+try-lengths-enum-told-2 : (t : ℕ) → try-lengths-lts.Need-enum-told-2 (try-lengths-calls t) (try-lengths-at t) try-lengths.Post try-lengths-Inv-loop try-lengths-μ-loop
+try-lengths-enum-told-2 t c = search needs
+
+try-lengths-same-length-4 : (t : ℕ) → try-lengths-lts.Need-same-length-4 (try-lengths-calls t) (try-lengths-at t) try-lengths.Post try-lengths-Inv-loop try-lengths-μ-loop
+try-lengths-same-length-4 t c = search needs
+
+try-lengths-returns-4 : (t : ℕ) → try-lengths-lts.Need-returns-4 (try-lengths-calls t) (try-lengths-at t) try-lengths.Post try-lengths-Inv-loop try-lengths-μ-loop
+try-lengths-returns-4 t c = trying-over (trying-next (c .before .before .before .before .before .before .before .before .before .before .before .before .before .before .before .before .loop .inv) (c .before .before .before .before .before .before .before .before .before .before .before .before .before .before .before .before .before .foresee .ensures) (rw (c .before .before .before .before .before .before .before .before .before .before .before .before .before .end .given .1) at (c .before .before .before .before .before .before .before .before .before .before .before .before .before .before .before .next-end .ensures))) (c .before .before .before .before .before .before .before .before .before .before .settle2 .ensures) (rw (c .before .before .before .if2 .left) at (c .before .before .before .before .before .before .match-rest .ensures)) (rw (c .enum-told2 .given .1) at (c .before .before .term-end .ensures))
 
 pub +match-rest+try-lengths-spec : {M : Type 1} → statement M
-+match-rest+try-lengths-spec = close μ-match-rest μ-try-lengths (λ t. match-rest-lts.spec (match-rest-calls t) (match-rest-at t)
++match-rest+try-lengths-spec = close μ-match-rest μ-try-lengths (λ t. match-rest-lts.spec (match-rest-calls t)
+    (match-rest-at t)
     match-rest.Post
     match-rest-Inv-loop
     match-rest-μ-loop
     (match-rest-loop-holds t)
-    (match-rest-read-requires t)
-    (match-rest-enum-known-x t)
-    (match-rest-slot-of-requires t)
+    (match-rest-pass-requires t)
+    (match-rest-slot-at-requires t)
     (match-rest-is-fresh-e-requires t)
     (match-rest-try-lengths-requires t)
     (match-rest-same-length t)
@@ -203,30 +199,31 @@ pub +match-rest+try-lengths-spec : {M : Type 1} → statement M
     (match-rest-enum-told t)
     (match-rest-same-length-2 t)
     (match-rest-returns-2 t)
-    (match-rest-enum-told-2 t)
     (match-rest-same-length-3 t)
-    (match-rest-returns-3 t)
-    (match-rest-enum-told-3 t)
-    (match-rest-same-length-4 t)
-    (match-rest-returns-4 t)
-    (match-rest-same-length-5 t)
-    (match-rest-returns-5 t))
-    λ t. try-lengths-lts.spec (try-lengths-calls t) (try-lengths-at t)
+    (match-rest-returns-3 t))
+    λ t. try-lengths-lts.spec (try-lengths-calls t)
+    (try-lengths-at t)
     try-lengths.Post
     try-lengths-Inv-loop
     try-lengths-μ-loop
     (try-lengths-settle-requires t)
     (try-lengths-same-length t)
     (try-lengths-returns t)
+    (try-lengths-foresee-requires t)
     (try-lengths-loop-holds t)
-    (try-lengths-settle-requires-2 t)
-    (try-lengths-match-rest-requires t)
+    (try-lengths-next-end-requires t)
+    (try-lengths-enum-known-end t)
+    (try-lengths-enum-told t)
     (try-lengths-same-length-2 t)
     (try-lengths-returns-2 t)
+    (try-lengths-settle-requires-2 t)
+    (try-lengths-match-rest-requires t)
+    (try-lengths-same-length-3 t)
+    (try-lengths-returns-3 t)
     (try-lengths-term-end-requires t)
     (try-lengths-enum-known-next t)
     (try-lengths-loop-less t)
     (try-lengths-loop-again t)
-    (try-lengths-enum-told t)
-    (try-lengths-same-length-3 t)
-    (try-lengths-returns-3 t)
+    (try-lengths-enum-told-2 t)
+    (try-lengths-same-length-4 t)
+    (try-lengths-returns-4 t)

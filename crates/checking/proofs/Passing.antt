@@ -1,0 +1,183 @@
+-- Elements that surely are good make a step of the check.
+use mathlib.Core.Path.{_≡_, refl, sym, _∙_, ap}
+use mathlib.Core.Bool.{Bool, true, false, _||_}
+use mathlib.Core.Logic.{_⊎_, inl, inr}
+use mathlib.Core.List.{List}
+use Prim.Native.Nat.{ℕ, _+_, _-_, _^_, _≤_, _<_}
+use native.Mathlib.Omega.{arith}
+use lib.ListN.{length, getD}
+use lib.Dec.{eqb, leb, ltb}
+use borrow.Author.Tests.{eqb-true, eqb-false, leb-false, ne-eqb, le-leb, lt-leb, lt-ltb}
+use Rattle.meaning.specs.Elements.{body}
+use Rattle.meaning.specs.Goodness.{left, right, span, stands, implies, endsSide, paired, underLimit, firstFailing, partAfter, sided}
+use Rattle.meaning.proofs.Truth.{never, is-true, is-false, see, or-right}
+use Rattle.checking.specs.declared.State.{State}
+use Rattle.checking.specs.declared.Item.{Item}
+use Rattle.checking.specs.Standing.{partOf, nextOf, opened, stackAfter, depthAfter, fresh, limitsOf, testsOf, Movable, movedTo, entireOf, HasRoom, Ready, Tells, elementAt, Steps, Tried}
+use Rattle.checking.proofs.Parts.{sided-is}
+use Rattle.checking.proofs.Opens.{neither-of as neither, alone, Becomes, none-moves}
+use Rattle.checking.proofs.Tests.{passes, span-from, span-low, span-le, under, fresh-plain, limits-old, limits-left}
+use Rattle.checking.proofs.Items.{item-tells}
+use Rattle.checking.proofs.Stepping.{accepted}
+
+pub plain : (k : ℕ) → k < 8 → span 8 10 k ≡ false
+plain k h = sym (span-low 8 10 k h) ∙ lt-leb 8 k h
+
+pub end-plain : (k : ℕ) → 10 < k → span 8 10 k ≡ false
+end-plain k h = sym (span-from 8 10 k (omega arith)) ∙ lt-leb k 10 h
+
+pub no-end : (k : ℕ) → k ≤ 10 → endsSide k ≡ false
+unfolding endsSide
+no-end k h = rw (ne-eqb k 11 (omega arith), ne-eqb k 12 (omega arith))
+
+pub end-kind : (k : ℕ) → endsSide k ≡ true → (10 < k) × (k ≤ 12) × (body k ≡ 0) × (span 1 15 k ≡ true)
+unfolding endsSide body span
+end-kind k z =
+    elim (see (eqb k 11)) [
+      | is-true y ↦ let e = eqb-true k 11 y in (omega arith, omega arith, rw e, rw e)
+      | is-false y ↦ let w : eqb k 12 ≡ true = rw y at z in let e = eqb-true k 12 w in (omega arith, omega arith, rw e, rw e)
+    ]
+
+-- ---- a step without a fault
+module _ (q : State) (k v : ℕ) (st : List ℕ) (R : Ready q st) (known : span 1 15 k ≡ true) (stood : stands (partOf (q .part)) k ≡ true)
+    (nu : implies (span 8 10 k) (leb v 15) ≡ true) (p : paired k (opened (q .depth) st) ≡ true) (new : Bool) (en : new ≡ fresh (q .set) k v)
+    (lim : 0 ≡ firstFailing 6 (limitsOf q k new)) (to : ℕ) (et : k < 32 → to ≡ nextOf (partOf (q .part)) k) where
+  good : 0 ≡ firstFailing 1 (testsOf q (entireOf k v) (opened (q .depth) st) new)
+  unfolding testsOf
+  good = passes 1 _ known (passes 2 _ refl (passes 3 _ stood (passes 4 _ nu (passes 5 _ p lim))))
+
+  pub good-steps : (d : ℕ) (st′ : List ℕ) (q′ : State) → d ≡ depthAfter k (q .depth) → st′ ≡ stackAfter k (q .depth) st → q′ ≡ movedTo q (entireOf k v) to d new
+      → Steps q (entireOf k v) st (record { fault = 0; next = q′ }) st′
+  good-steps = accepted q (entireOf k v) st new en 0 good refl R to et
+
+-- ---- in a side
+side-part : (p : ℕ) → span 3 4 p ≡ true → (p ≡ 3) ⊎ (p ≡ 4)
+side-part p z =
+    let r = span-le 3 4 p z in
+    elim (see (eqb p 4)) [
+      | is-true y ↦ inr (eqb-true p 4 y)
+      | is-false y ↦ let n = eqb-false p 4 y in inl (omega arith)
+    ]
+
+stood-left : (k : ℕ) → 1 ≤ k → k ≤ 10 → (k ≡ 6 → ⊥) → (k ≡ 7 → ⊥) → stands left k ≡ true
+unfolding stands span
+stood-left k low high m n =
+    elim (see (leb k 5)) [
+      | is-true z ↦ rw (le-leb 1 k low, z)
+      | is-false z ↦ let h : 8 ≤ k = high-enough k m n (leb-false k 5 z) in rw (le-leb 1 k low, z, le-leb 8 k h, le-leb k 11 (omega arith))
+    ]
+  where
+    high-enough : (k : ℕ) → (k ≡ 6 → ⊥) → (k ≡ 7 → ⊥) → 5 < k → 8 ≤ k
+    high-enough k m n h = omega arith
+
+stood-right : (k : ℕ) → 1 ≤ k → k ≤ 10 → stands right k ≡ true
+unfolding stands span
+stood-right k low high = rw (le-leb 1 k low, le-leb k 10 high)
+
+stood : (p k : ℕ) → (p ≡ 3) ⊎ (p ≡ 4) → 1 ≤ k → k ≤ 10 → ((k ≡ 6) ⊎ (k ≡ 7) → p ≡ 4) → stands (partOf p) k ≡ true
+unfolding partOf
+stood p k (inl e) low high r = rw e (stood-left k low high (λ z. omega (arith, r (inl z))) (λ z. omega (arith, r (inr z))))
+stood p k (inr e) low high r = rw e (stood-right k low high)
+
+same-part : (p k : ℕ) → (p ≡ 3) ⊎ (p ≡ 4) → k ≤ 10 → stands (partOf p) k ≡ true → p ≡ nextOf (partOf p) k
+unfolding nextOf partOf partAfter
+same-part p k (inl e) high s = let w : stands left k ≡ true = rw e at s in rw (e, w, ne-eqb k 11 (omega arith))
+same-part p k (inr e) high s = let w : stands right k ≡ true = rw e at s in rw (e, w, ne-eqb k 12 (omega arith))
+
+module _ (q : State) (H : HasRoom q) where
+  pub few : q .count < 400
+  few = under (q .part) (q .count) (ne-eqb (q .part) 0 (λ e. omega (arith, span-le 3 4 (q .part) (H .0)))) (H .1)
+
+  module _ (k v : ℕ) (low : 1 ≤ k) (high : k ≤ 10) (right-only : (k ≡ 6) ⊎ (k ≡ 7) → q .part ≡ 4) (st : List ℕ) (R : Ready q st) (p : paired k (opened (q .depth) st) ≡ true) where
+    stands-here : stands (partOf (q .part)) k ≡ true
+    stands-here = stood (q .part) k (side-part (q .part) (H .0)) low high right-only
+
+    room : (endsSide k || underLimit (partOf (q .part)) (q .count)) ≡ true
+    room = rw (H .1) (or-right (endsSide k))
+
+    known : span 1 15 k ≡ true
+    unfolding span
+    known = rw (le-leb 1 k low, le-leb k 15 (omega arith))
+
+    -- no variable, or one that the side has
+    pub old-steps : implies (span 8 10 k) (leb v 15) ≡ true → (new : Bool) → new ≡ fresh (q .set) k v → new ≡ false
+        → (d : ℕ) (st′ : List ℕ) (q′ : State) → d ≡ depthAfter k (q .depth) → st′ ≡ stackAfter k (q .depth) st → q′ ≡ movedTo q (entireOf k v) (q .part) d new
+        → Steps q (entireOf k v) st (record { fault = 0; next = q′ }) st′
+    old-steps nu new en z = good-steps q k v st R known stands-here nu p new en (limits-old q k new room z) (q .part) (λ h. same-part (q .part) k (side-part (q .part) (H .0)) high stands-here)
+
+    pub new-steps : implies (span 8 10 k) (leb v 15) ≡ true → (new : Bool) → new ≡ fresh (q .set) k v → new ≡ true → (q .part ≡ 4 → ⊥) → q .number < 16
+        → (d : ℕ) (st′ : List ℕ) (q′ : State) → d ≡ depthAfter k (q .depth) → st′ ≡ stackAfter k (q .depth) st → q′ ≡ movedTo q (entireOf k v) (q .part) d new
+        → Steps q (entireOf k v) st (record { fault = 0; next = q′ }) st′
+    new-steps nu new en z n f = good-steps q k v st R known stands-here nu p new en (limits-left q k new room z n f) (q .part) (λ h. same-part (q .part) k (side-part (q .part) (H .0)) high stands-here)
+
+pub room-in : (q : State) {p n : ℕ} → q .part ≡ p → span 3 4 p ≡ true → ((m : ℕ) → (p ≡ 0 → ⊥) → underLimit (partOf p) m ≡ ltb m n) → q .count < n → HasRoom q
+room-in q {p} {n} e z f h = rw e (z, f (q .count) (λ y. omega (arith, span-le 3 4 p z)) ∙ lt-ltb (q .count) n h)
+
+pub shallow : (q : State) (st : List ℕ) → HasRoom q → Ready q st → q .depth < length st
+shallow q st H R =
+    let z : eqb (q .part) 0 ≡ false = ne-eqb (q .part) 0 (λ e. omega (arith, span-le 3 4 (q .part) (H .0))) in
+    let y : sided (partOf (q .part)) ≡ true = rw (sided-is (q .part), H .0) (or-right (eqb (q .part) 0)) in
+    omega (arith, rw y at (R .means .deep), few q H, rw z at (R .room))
+
+pub movable : (q : State) (e : Item) → (endsSide (e .kind) ≡ false → q .count + 1 < 2 ^ 64) → Movable q e false
+movable q e h = (h, λ z. never (let w : false ≡ true = z in cc))
+
+pub end-movable : (q : State) (e : Item) (k : ℕ) → e ≡ entireOf k 0 → endsSide k ≡ true → Movable q e false
+end-movable q e k ee z = rw ee (movable q (entireOf k 0) (λ y. never (let c : true ≡ false = sym z ∙ y in cc)))
+
+pub new-movable : (q : State) (e : Item) (k v : ℕ) (new : Bool) → HasRoom q → e ≡ entireOf k v → 8 ≤ k → k ≤ 10 → v ≤ 15 → (q .number ≤ 15) ⊎ (new ≡ false) → Movable q e new
+new-movable q e k v new H ee low high small w = rw ee (λ z. omega (arith, few q H), λ z. (low, high, small, below w z))
+  where
+    below : (q .number ≤ 15) ⊎ (new ≡ false) → new ≡ true → q .number < 16
+    below (inl l) z = omega arith
+    below (inr y) z = never (let c : true ≡ false = sym z ∙ y in cc)
+
+-- ---- what the helpers answer
+pub refused : (q : State) (e : Item) (st : List ℕ) {n : ℕ} → (n ≡ 0 → ⊥) → Tried q e st (record { fault = n; next = q }) st
+refused q e st n = record { steps = λ z. absurd (n z); part = refl; kept = λ m. refl }
+
+pub bracket-passed : (q : State) (H : HasRoom q) (k : ℕ) → 4 ≤ k → k ≤ 7 → ((5 < k) × (q .part ≡ 4)) ⊎ (k ≤ 5) → (st : List ℕ) → Ready q st → paired k (opened (q .depth) st) ≡ true
+    → (d : ℕ) (st′ : List ℕ) (q′ : State) (e : Item) → d ≡ depthAfter k (q .depth) → st′ ≡ stackAfter k (q .depth) st → e ≡ entireOf k 0 → q′ ≡ movedTo q e (q .part) d false
+    → Tried q (entireOf k 0) st (record { fault = 0; next = q′ }) st′
+unfolding movedTo
+bracket-passed q H k low high w st R p d st′ q′ e ed es ee eq =
+    let y : span 8 10 k ≡ false = plain k (omega arith) in
+    record {
+      steps = λ z. old-steps q H k 0 (omega arith) (omega arith) (only w) st R p (rw y) false (fresh-plain (q .set) k 0 y) refl d st′ q′ ed es (eq ∙ ap (λ (x : Item). movedTo q x (q .part) d false) ee);
+      part = ap (λ (x : State). x .part) eq;
+      kept = λ n. absurd (n refl);
+    }
+  where
+    only : ((5 < k) × (q .part ≡ 4)) ⊎ (k ≤ 5) → (k ≡ 6) ⊎ (k ≡ 7) → q .part ≡ 4
+    only (inl w) e = w .1
+    only (inr w) (inl e) = never (omega arith)
+    only (inr w) (inr e) = never (omega arith)
+
+pub variable-passed : (q : State) (H : HasRoom q) (k v : ℕ) → 8 ≤ k → k ≤ 10 → v ≤ 15 → (new : Bool) → new ≡ fresh (q .set) k v → ((new ≡ true) × (q .part ≡ 4 → ⊥) × (q .number < 16)) ⊎ (new ≡ false)
+    → (q′ : State) (e : Item) → e ≡ entireOf k v → q′ ≡ movedTo q e (q .part) (q .depth) new → (st : List ℕ) → Ready q st
+    → Tried q (entireOf k v) st (record { fault = 0; next = q′ }) st
+unfolding movedTo span
+variable-passed q H k v low high small new en w q′ e ee eq st R =
+    record { steps = λ z. moved w; part = ap (λ (x : State). x .part) eq; kept = λ n. absurd (n refl) }
+  where
+    still : Becomes k (q .depth) st (q .depth) st
+    still = none-moves k (q .depth) st (neither k 4 6 (omega arith) (omega arith)) (neither k 5 7 (omega arith) (omega arith))
+
+    pairs : paired k (opened (q .depth) st) ≡ true
+    pairs = alone k (opened (q .depth) st) high (neither k 5 7 (omega arith) (omega arith))
+
+    numbered : implies (span 8 10 k) (leb v 15) ≡ true
+    numbered = rw (le-leb 8 k low, le-leb k 10 high, le-leb v 15 small)
+
+    moved : ((new ≡ true) × (q .part ≡ 4 → ⊥) × (q .number < 16)) ⊎ (new ≡ false) → Steps q (entireOf k v) st (record { fault = 0; next = q′ }) st
+    moved (inl u) = new-steps q H k v (omega arith) high (λ z. absurd (neither k 6 7 (omega arith) (omega arith) z)) st R pairs numbered new en (u .0) (u .1) (u .2) (q .depth) st q′ (still .0) (still .1) (eq ∙ ap (λ (x : Item). movedTo q x (q .part) (q .depth) new) ee)
+    moved (inr u) = old-steps q H k v (omega arith) high (λ z. absurd (neither k 6 7 (omega arith) (omega arith) z)) st R pairs numbered new en u (q .depth) st q′ (still .0) (still .1) (eq ∙ ap (λ (x : Item). movedTo q x (q .part) (q .depth) new) ee)
+
+-- ---- what the item of a whole element tells
+pub tells : (bs : List ℕ) (i : ℕ) → i < length bs → body (getD bs i 0) < length bs - i → Tells (entireOf (getD bs i 0) (getD bs (i + 1) 0)) (elementAt bs i)
+tells bs i h l = rw (lt-ltb (body (getD bs i 0)) (length bs - i) l) at (item-tells bs i (body (getD bs i 0)) (getD bs (i + 1) 0) h refl (λ w. refl))
+
+pub tells-plain : (bs : List ℕ) (i : ℕ) → i < length bs → body (getD bs i 0) < length bs - i → span 8 10 (getD bs i 0) ≡ false → Tells (entireOf (getD bs i 0) 0) (elementAt bs i)
+tells-plain bs i h l z =
+    let T = tells bs i h l in
+    record { kind-is = T .kind-is; whole-is = T .whole-is; pair = λ w y. never (let c : true ≡ false = sym y ∙ z in cc) }

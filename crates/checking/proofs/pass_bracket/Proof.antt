@@ -1,0 +1,50 @@
+use mathlib.Core.Logic.{⊎-elim, inl, inr}
+use native.Mathlib.Omega.{arith}
+use Rattle.checking.proofs.Tests.{granted}
+use Rattle.checking.proofs.Passing.{few, shallow, movable, refused, bracket-passed}
+use borrow.Author.Needs.{needs}
+use Rattle.checking.proofs.pass_bracket.Statement.{statement}
+use Rattle.checking.proofs.pass_bracket.Tie as tie
+
+returns : tie.Need-returns
+returns c = refused _ _ _ (omega arith)
+
+is-paired-requires : tie.Need-is-paired-requires
+is-paired-requires c κs = search needs
+
+same-length : tie.Need-same-length
+same-length c = search needs
+
+returns-2 : tie.Need-returns-2
+returns-2 c = refused _ _ _ (omega arith)
+
+brackets-after-requires : tie.Need-brackets-after-requires
+brackets-after-requires c κs = (shallow _ _ (c .before .before .before .before .before .before .pre .0) (c .before .before .before .before .before .before .pre .1), granted (c .before .before .is-paired .ensures) (c .before .if3 .left))
+
+entire-requires : tie.Need-entire-requires
+entire-requires c κs = search needs
+
+state-after-requires : tie.Need-state-after-requires
+state-after-requires c κs = movable (c .before .before .before .before .before .before .before .before .before .before .args .state) (c .entire .result) (λ z. omega (arith, few (c .before .before .before .before .before .before .before .before .before .before .args .state) (c .before .before .before .before .before .before .before .before .before .before .pre .0)))
+
+same-length-2 : tie.Need-same-length-2
+same-length-2 c = search needs
+
+returns-3 : tie.Need-returns-3
+returns-3 c =
+    bracket-passed _ (c .before .before .before .before .before .before .before .before .before .before .before .pre .0) _ (c .before .before .before .before .before .before .before .before .before .before .before .pre .2) (c .before .before .before .before .before .before .before .before .before .before .before .pre .3) (⊎-elim (λ w. inl (w .0 .taken, w .2 .left)) (λ w. inr (w .left)) (c .before .before .before .before .before .before .before .before .before .if1 .came)) _ (c .before .before .before .before .before .before .before .before .before .before .before .pre .1) (granted (c .before .before .before .before .before .before .before .is-paired .ensures) (c .before .before .before .before .before .before .if3 .left)) _ _ _ _
+    (c .before .before .before .before .brackets-after .ensures .0) (c .before .before .before .before .brackets-after .ensures .1) (c .before .entire .ensures) (c .state-after .ensures)
+
+pub pass-bracket-spec : {M : Type 1} → statement M
+pass-bracket-spec =
+    tie.close
+    (tie.spec
+    returns
+    is-paired-requires
+    same-length
+    returns-2
+    brackets-after-requires
+    entire-requires
+    state-after-requires
+    same-length-2
+    returns-3)
