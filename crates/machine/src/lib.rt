@@ -192,7 +192,7 @@ fn run_noting(
     }
 }
 
-// A run of a good program from a good field. A call is four bytes long at least and has two brackets; a small buffer gets a small table.
+// A run of a good program from a good field. A call is four bytes long at least and has two brackets; a smaller buffer gets a smaller table.
 fn run_good(
     program: &[u8],
     field: &mut [u8],
@@ -206,6 +206,10 @@ fn run_good(
     if field.len() <= 4096 {
         let mut few = [0u16; 2048];
         return run_noting(program, field, used, scratch, budget, &mut few);
+    }
+    if field.len() <= 16384 {
+        let mut some = [0u16; 8192];
+        return run_noting(program, field, used, scratch, budget, &mut some);
     }
     let mut calls = [0u16; 32768];
     run_noting(program, field, used, scratch, budget, &mut calls)
