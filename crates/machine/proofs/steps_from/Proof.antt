@@ -35,7 +35,7 @@ abbrev μ-loop : tie.MeasureT-loop
 
 -- src/lib.rt:87:9
 begin-requires : tie.Need-begin-requires Inv-loop μ-loop
-begin-requires c κs = c .before .before .before .before .before .before .before .before .pre .0 .fits
+begin-requires c κs = let k = c .before .before .before .before .before .before .before .before .pre .0 .fits in omega arith
 
 -- src/lib.rt:89:5
 loop-holds : tie.Need-loop-holds Inv-loop μ-loop
