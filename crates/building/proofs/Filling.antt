@@ -1,16 +1,16 @@
 -- A side measured, built and noted, element by element.
-use mathlib.Core.Path.{_≡_, refl, sym, _∙_, ap, ap₂, subst}
+use mathlib.Core.Path.{_≡_, refl, sym, _∙_, ap, subst}
 use mathlib.Core.Bool.{Bool, true, false, _&&_, cond}
 use mathlib.Core.Logic.{_⊎_, inl, inr}
 use mathlib.Core.List.{List, [], _∷_, _++_, append-assoc, append-nil}
-use Prim.Native.Nat.{ℕ, zero, suc, _+_, _-_, _≤_, _<_}
+use Prim.Native.Nat.{ℕ, _+_, _-_, _≤_, _<_}
 use native.Mathlib.Omega.{arith}
 use native.Mathlib.Numerals.{add-one}
-use lib.ListN.{length, getD, take, drop, set, length-set, length-append, length-take, length-drop}
-use lib.Seq.{sets, take-paste, paste}
+use lib.ListN.{length, getD, take, drop, set, length-set}
+use lib.Seq.{sets}
 use lib.Dec.{eqb, leb}
 use borrow.Author.Tests.{eqb-true, ne-eqb, le-leb, lt-leb}
-use Rattle.meaning.specs.Elements.{Element, kind, body, size, isVariable}
+use Rattle.meaning.specs.Elements.{Element, size, isVariable}
 use Rattle.meaning.proofs.Truth.{never, Seen, is-true, is-false, see}
 use Rattle.meaning.proofs.Cutting.{Whole}
 use Rattle.meaning.proofs.Leading.{size-append}
@@ -44,12 +44,6 @@ measuring-start p from to f b limit h w r =
 
 module _ (p : List ℕ) (from to : ℕ) (f b : List ℕ) (limit at n calls pivot : ℕ) (i : Measuring p from to f b limit at n calls pivot) where
   module _ (len : ℕ) (w : Walk p at to f b len) where
-    el : Element
-    el = take len (drop at p)
-
-    rest : List Element
-    rest = sideOf p (at + len) to
-
     spans-now : spans b (sideOf p at to) ≡ spanOf b (take len (drop at p)) + spans b (sideOf p (at + len) to)
     spans-now = ap (spans b) (w .is) ∙ spans-cons b (take len (drop at p)) (sideOf p (at + len) to)
 

@@ -1,17 +1,16 @@
 -- A side in three parts, put into the field one after the other.
-use mathlib.Core.Path.{_≡_, refl, sym, _∙_, ap, ap₂, subst}
+use mathlib.Core.Path.{_≡_, refl, sym, _∙_, ap, ap₂}
 use mathlib.Core.Bool.{true}
 use mathlib.Core.List.{List, [], _∷_, _++_, append-assoc, append-nil}
-use Prim.Native.Nat.{ℕ, zero, suc, _+_, _-_, _≤_, _<_}
+use Prim.Native.Nat.{ℕ, _+_, _-_, _≤_, _<_}
 use native.Mathlib.Omega.{arith}
 use lib.ListN.{length, getD, take, drop, length-append, length-take, length-drop, take-append-drop}
 use lib.Seq.{paste, take-at, drop-at, drop-drop, take-take, length-take-le}
-use Rattle.meaning.specs.Elements.{Element, kind, body, size, isVariable}
+use Rattle.meaning.specs.Elements.{Element, body, size, isVariable}
 use Rattle.meaning.proofs.Cutting.{Whole}
-use Rattle.meaning.proofs.Leading.{size-append}
-use Rattle.kinds.specs.Slots.{slotOf, valueOf}
+use Rattle.kinds.specs.Slots.{slotOf}
 use Rattle.scanning.proofs.Marks.{size-nil, size-cons, whole-left, whole-right, whole-first}
-use Rattle.building.specs.Build.{sideOf, piece, pour, Held, Ready, ready-none, ready-more, spans, Known, Pivot, at-end, at-variable, Parted}
+use Rattle.building.specs.Build.{sideOf, piece, pour, Ready, ready-none, ready-more, spans, Pivot, at-end, at-variable, Parted}
 use Rattle.building.proofs.Sides.{drop-take, side-end, side-middle, side-behind, size-side, ready-first, var-range, Slot, slot}
 use Rattle.building.proofs.Spans.{Walk, walk, pour-long}
 
@@ -78,9 +77,6 @@ module _ (p : List ℕ) (from to pivot : ℕ) (f b : List ℕ) (t : Turn p from 
   inside =
       let (k, c, e, l) = whole-first (t .v) (t .b) _ rest-is rest-whole in
       omega (arith, size-side p pivot to fits, ap size rest-is, size-cons (t .v) (t .b), ap length e)
-
-  len : ℕ
-  len = 1 + body (getD p pivot 0)
 
   pub step : Walk p pivot to f b (1 + body (getD p pivot 0))
   step = walk p pivot to f b fits inside rest-whole rest-ready (1 + body (getD p pivot 0)) refl
@@ -196,7 +192,6 @@ pub put-in-all : (f s : List ℕ) (end from v n m : ℕ) → n ≤ m → m ≤ l
     → f1 ≡ paste f (end - (m - n) - v) (drop from f) v → f2 ≡ paste f1 (end - (m - n)) (drop n s) (m - n) → f3 ≡ paste f2 (end - (m - n) - v - n) (drop 0 s) n
     → f3 ≡ take (end - (m + v)) f ++ ((take n s ++ (take v (drop from f) ++ take (m - n) (drop n s))) ++ drop end f)
 put-in-all f s end from v n m h1 h2 h3 h4 h5 f1 f2 f3 e1 e2 e3 =
-    let x : ℕ = end - (m + v) in
     let q1 : end - (m - n) - v ≡ end - (m + v) + n = omega arith in
     let q2 : end - (m - n) ≡ end - (m + v) + n + v = omega arith in
     let q3 : end - (m - n) - v - n ≡ end - (m + v) = omega arith in
@@ -221,7 +216,6 @@ argument-short f hi at h = omega (arith, length-take (at - hi) (drop hi f), leng
 -- a part of the argument is a part of the field
 pub value-in : (f : List ℕ) (hi at v w : ℕ) → hi ≤ at → at ≤ length f → v ≤ w → w ≤ length (take (at - hi) (drop hi f)) → take (w - v) (drop (hi + v) f) ≡ take (w - v) (drop v (take (at - hi) (drop hi f)))
 value-in f hi at v w h l u k =
-    let n : ℕ = at - hi in
     let lw : w ≤ at - hi = omega (arith, length-take (at - hi) (drop hi f), length-drop hi f) in
     let q : at - hi ≡ v + (at - hi - v) = omega arith in
     let d : drop v (take (at - hi) (drop hi f)) ≡ take (at - hi - v) (drop (hi + v) f) = ap (λ (k : ℕ). drop v (take k (drop hi f))) q ∙ drop-take v (at - hi - v) (drop hi f) ∙ ap (take (at - hi - v)) (drop-drop v hi f) in

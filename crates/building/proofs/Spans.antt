@@ -1,13 +1,13 @@
 -- How long what a side gives is, element by element.
-use mathlib.Core.Path.{_≡_, refl, sym, _∙_, ap, subst}
-use mathlib.Core.Bool.{Bool, true, false}
-use mathlib.Core.List.{List, [], _∷_, _++_}
+use mathlib.Core.Path.{_≡_, refl, sym, _∙_}
+use mathlib.Core.Bool.{true, false}
+use mathlib.Core.List.{List, [], _∷_}
 use Prim.Native.Nat.{ℕ, suc, _+_, _-_, _≤_, _<_}
 use native.Mathlib.Omega.{arith}
 use lib.ListN.{length, getD, take, drop, length-append, length-take, length-drop}
 use lib.Seq.{getD-take, getD-drop}
-use borrow.Author.Tests.{lt-leb, le-leb}
-use Rattle.meaning.specs.Elements.{Element, kind, body, size, isVariable}
+use borrow.Author.Tests.{lt-leb}
+use Rattle.meaning.specs.Elements.{Element, kind, body, isVariable}
 use Rattle.meaning.proofs.Truth.{is-true, is-false, see, and-false}
 use Rattle.meaning.proofs.Cutting.{Whole, body-le}
 use Rattle.kinds.specs.Slots.{slotOf, valueOf}

@@ -2,18 +2,18 @@
 use mathlib.Core.Path.{_≡_, refl, sym, _∙_, ap}
 use mathlib.Core.Bool.{true, false}
 use mathlib.Core.List.{List, [], _∷_}
-use Prim.Native.Nat.{ℕ, _+_, _-_, _*_, _%_, _≤_, _<_}
+use Prim.Native.Nat.{ℕ, _+_, _-_, _≤_, _<_}
 use native.Mathlib.Omega.{arith}
 use lib.ListN.{length, getD, take, drop, set, length-set, replicate, length-replicate, getD-replicate}
-use lib.Seq.{getD-set-same, getD-set-other, getD-take, getD-drop}
+use lib.Seq.{getD-set-same, getD-set-other}
 use lib.Dec.{eqb}
-use borrow.Author.Tests.{eqb-true, eqb-false, ne-eqb}
-use Rattle.meaning.specs.Elements.{Element, kind, body, same}
+use borrow.Author.Tests.{eqb-true, eqb-false}
+use Rattle.meaning.specs.Elements.{kind, body, same}
 use Rattle.meaning.specs.Machine.{function}
 use Rattle.meaning.proofs.Truth.{never, Seen, is-true, is-false, see, same-eq, same-refl}
 use Rattle.choosing.specs.declared.Spot.the-variants.{At, Nowhere}
-use Rattle.choosing.specs.Choose.{restOf, Program, Looked, nowhere, slotFor, Entry, empty, taken, Indexed, Cache, Cached}
-use Rattle.choosing.proofs.Rest.{rest-is, rest-within, rest-rest, rest-end, kind-el, bodies-first, header-is, Finding, found-here}
+use Rattle.choosing.specs.Choose.{restOf, Program, Looked, nowhere, slotFor, Entry, empty, taken, Indexed, Cache}
+use Rattle.choosing.proofs.Rest.{rest-is, rest-within, rest-rest, rest-end, kind-el, bodies-first, header-is, found-here}
 use Rattle.choosing.proofs.Fill.{body-here}
 
 slot-low : (lo hi : ℕ) → slotFor lo hi < 8192
@@ -40,9 +40,6 @@ slot-same {a} {b} {c} {d} h = let e : a ≡ c = cc in let f : b ≡ d = cc in rw
 
 -- ONE ELEMENT
 module _ (p : List ℕ) (i : ℕ) (spots : List ℕ) (x : Indexed p i spots) (h : i < length p) (n : ℕ) (q : n ≡ body (getD p i 0)) where
-  el : Element
-  el = take (1 + body (getD p i 0)) (drop i p)
-
   pub within : i + 1 + n ≤ length p
   within = rw q (rest-within p i h (x .whole))
 

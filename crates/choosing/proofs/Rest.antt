@@ -1,21 +1,19 @@
 -- A program read element by element: places and elements.
-use mathlib.Core.Path.{_≡_, refl, sym, _∙_, ap, ap₂, subst}
+use mathlib.Core.Path.{_≡_, refl, sym, _∙_, ap}
 use mathlib.Core.Bool.{Bool, true, false, _&&_}
-use mathlib.Core.List.{List, [], _∷_, _++_, append-assoc, append-nil}
-use Prim.Native.Nat.{ℕ, suc, _+_, _-_, _≤_, _<_}
+use mathlib.Core.List.{List, [], _∷_}
+use Prim.Native.Nat.{ℕ, suc, _+_, _≤_, _<_}
 use native.Mathlib.Omega.{arith}
 use native.Mathlib.Numerals.{add-one}
-use lib.ListN.{length, getD, take, drop, length-append, length-take, length-drop, take-append-drop}
-use lib.Seq.{getD-take, getD-drop, drop-cons, length-take-le, take-take, take-at, drop-at}
+use lib.ListN.{length, getD, take, drop, length-take, length-drop}
+use lib.Seq.{getD-take, getD-drop, drop-cons}
 use lib.Dec.{eqb}
 use borrow.Author.Tests.{eq-eqb, ne-eqb}
-use Rattle.meaning.specs.Elements.{Element, kind, body, cut, join, size, same}
+use Rattle.meaning.specs.Elements.{Element, kind, body, size, same}
 use Rattle.meaning.specs.Machine.{before, function}
 use Rattle.meaning.proofs.Truth.{never, same-eq}
-use Rattle.meaning.proofs.Cutting.{Whole, w-none, w-more, cut-join, join-cut}
-use Rattle.meaning.proofs.Leading.{join-append, size-append}
+use Rattle.meaning.proofs.Cutting.{Whole, w-none, w-more}
 use Rattle.meaning.proofs.Programs.{before-here, before-on}
-use Rattle.building.specs.Build.{sideOf}
 use Rattle.scanning.proofs.Marks.{size-nil, size-cons}
 use Rattle.building.proofs.Sides.{kind-first, side-is, side-within, side-rest, side-end}
 use Rattle.choosing.specs.declared.Spot.the-variants.{At, Nowhere}

@@ -2,27 +2,27 @@
 use mathlib.Core.Path.{_≡_, refl, sym, _∙_, ap, subst}
 use mathlib.Core.Bool.{Bool, true, false}
 use mathlib.Core.Option.{some}
-use mathlib.Core.List.{List, [], _∷_, _++_, append-assoc, append-nil}
-use Prim.Native.Nat.{ℕ, zero, suc, _+_, _*_, _-_, _≤_, _<_}
+use mathlib.Core.List.{List, [], _∷_, _++_, append-nil}
+use Prim.Native.Nat.{ℕ, suc, _+_, _-_, _≤_}
 use native.Mathlib.Omega.{arith}
 use native.Mathlib.Numerals.{add-one}
-use lib.ListN.{length, getD, take, drop, replicate, drop-of-length-le, length-drop}
+use lib.ListN.{length, take, drop, replicate, drop-of-length-le, length-drop}
 use lib.Seq.{paste, length-paste, length-take-le, drop-length}
-use Rattle.meaning.specs.Elements.{Element, kind, cut, join, size, isKind}
+use Rattle.meaning.specs.Elements.{join, size, isKind}
 use Rattle.meaning.specs.Machine.{holds, stuck, onward, step, Result, run, closing, answer}
-use Rattle.meaning.proofs.Truth.{never, or-right}
-use Rattle.meaning.proofs.Cutting.{Whole, join-cut}
+use Rattle.meaning.proofs.Truth.{or-right}
+use Rattle.meaning.proofs.Cutting.{join-cut}
 use Rattle.meaning.proofs.Leading.{holds-append}
 use Rattle.meaning.proofs.Programs.{Functions, Solid, solid-whole}
 use Rattle.meaning.proofs.Balance.{brackets}
 use Rattle.meaning.proofs.Words.{StepIs}
 use Rattle.meaning.proofs.Steps.{step-good, step-is, stuck-code}
 use Rattle.meaning.proofs.Runs.{run-done, run-paused, run-stuck, run-onward}
-use Rattle.scanning.specs.State.{fieldOf, fieldAt, Good, stack, marksOf, none-open, Standing, Reached, Advanced}
+use Rattle.scanning.specs.State.{fieldOf, fieldAt, Good, stack, marksOf, none-open, Reached, Advanced}
 use Rattle.scanning.proofs.Marks.{size-nil}
 use Rattle.scanning.proofs.Gap.{brought-up, brought-down}
 use Rattle.choosing.specs.Choose.{restOf}
-use Rattle.stepping.specs.Stepping.{Under, Placed, Stepped, stays, goes}
+use Rattle.stepping.specs.Stepping.{Stepped, stays, goes}
 use Rattle.stepping.proofs.Leads.{last}
 use Rattle.machine.specs.Running.{Ended, Between}
 use Rattle.machine.proofs.Answering.{cleared}
@@ -145,7 +145,6 @@ pub closed : (whole : Result) (f s f1 f2 f3 s1 s2 : List ℕ) {code named steps 
     → named ≡ code → closing f s whole ≡ answer named steps (lo + (length f1 - hi)) place f3 s2
 unfolding closing size
 closed whole f s f1 f2 f3 s1 s2 {code} {named} {steps} {lo} {hi} {place} e lf ls e2 e3 es en =
-    let used : ℕ = lo + (length f1 - hi) in
     let g = e .gap in
     let h = e .fits in
     let l2 : length f2 ≡ length f1 = ap length e2 ∙ length-paste f1 lo (drop hi f1) (length f1 - hi) (omega arith) (omega (arith, length-drop hi f1)) in

@@ -134,9 +134,6 @@ module _ (d₀ : List ℕ) (from to : ℕ) (up : from ≤ to) (fits : to ≤ len
       copied-all d₀ from (replicate (to - from) 0) (to - from) cl-fits cl-has d (i - from) (omega arith) (c .1)
       ∙ rw (take-all {A = ℕ} (to - from) (replicate (to - from) 0) (omega (arith, length-replicate {A = ℕ} (to - from) 0)), e)
 
-  pub cleared-long : (d : List ℕ) (i : ℕ) → Cleared d i → length d ≡ length d₀
-  cleared-long d i c = c .1 .long
-
 -- what stays in its place
 pub stayed : (s : List ℕ) (from at n : ℕ) → from ≤ at → at ≤ from → s ≡ paste s at (drop from s) n
 stayed s from at n h k =

@@ -1,9 +1,9 @@
 -- The bytes on both sides of the gap, and what moves over it.
 use mathlib.Core.Path.{_≡_, refl, sym, _∙_, ap, ap₂}
-use mathlib.Core.List.{List, [], _∷_, _++_, append-assoc, append-nil}
-use Prim.Native.Nat.{ℕ, _+_, _-_, _≤_, _<_}
+use mathlib.Core.List.{List, _∷_, _++_, append-assoc, append-nil}
+use Prim.Native.Nat.{ℕ, _+_, _-_, _≤_}
 use native.Mathlib.Omega.{arith}
-use lib.ListN.{length, getD, take, drop, length-append, length-drop, take-append-drop, drop-of-length-le}
+use lib.ListN.{length, getD, take, drop, length-drop, take-append-drop, drop-of-length-le}
 use lib.Seq.{paste, take-paste, drop-paste, drop-drop, take-add, take-take, take-append-le, take-all, drop-at, getD-drop, getD-at, length-take-le}
 use Rattle.meaning.specs.Elements.{Element, kind, cut, join, size}
 use Rattle.meaning.proofs.Cutting.{join-cut}

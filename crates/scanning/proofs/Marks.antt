@@ -1,19 +1,19 @@
 -- Elements, their bytes, and the call brackets among them.
 use mathlib.Core.Path.{_≡_, refl, sym, _∙_, ap, ap₂, subst}
-use mathlib.Core.Bool.{true, false, _||_}
+use mathlib.Core.Bool.{true, false}
 use mathlib.Core.Option.{some}
 use mathlib.Core.List.{List, [], _∷_, _++_, append-assoc, append-nil}
-use Prim.Native.Nat.{ℕ, zero, suc, _+_, _-_, _≤_, _<_}
+use Prim.Native.Nat.{ℕ, zero, suc, _+_, _≤_, _<_}
 use native.Mathlib.Omega.{arith}
 use native.Mathlib.Numerals.{add-one}
-use lib.ListN.{length, getD, take, drop, set, length-append, length-drop}
-use lib.Seq.{getD-set-same, getD-set-other, getD-drop, getD-at, take-at, drop-at, length-take-le}
+use lib.ListN.{length, take, drop, set, length-append}
+use lib.Seq.{getD-set-same, getD-set-other, take-at, drop-at}
 use Rattle.meaning.specs.Elements.{Element, kind, body, cut, join, size, isKind}
 use Rattle.meaning.specs.Machine.{holds, nothing, lead, Lead, leading}
 use Rattle.meaning.proofs.Truth.{never, is-true, is-false, see, or-false}
-use Rattle.meaning.proofs.Cutting.{Whole, w-none, w-more, cut-join, join-cut}
+use Rattle.meaning.proofs.Cutting.{Whole, w-none, w-more, cut-join}
 use Rattle.meaning.proofs.Balance.{brackets}
-use Rattle.meaning.proofs.Leading.{holds-append, join-append, size-append, leading-closed}
+use Rattle.meaning.proofs.Leading.{holds-append, leading-closed}
 use Rattle.meaning.proofs.Runs.{some-leading}
 use Rattle.scanning.specs.State.{isCall, marksOf, calm, stack, Opens, none-open, one-open}
 

@@ -1,23 +1,23 @@
 -- On to the next call bracket, and over it.
-use mathlib.Core.Path.{_≡_, refl, sym, _∙_, ap, subst}
+use mathlib.Core.Path.{_≡_, refl, sym, _∙_, ap}
 use mathlib.Core.Bool.{Bool, true, false}
-use mathlib.Core.List.{List, [], _∷_, _++_, append-assoc, append-nil}
-use Prim.Native.Nat.{ℕ, zero, suc, _+_, _*_, _-_, _≤_, _<_}
+use mathlib.Core.List.{List, [], _∷_, _++_, append-assoc}
+use Prim.Native.Nat.{ℕ, suc, _+_, _*_, _-_, _≤_, _<_}
 use native.Mathlib.Omega.{arith}
 use native.Mathlib.Numerals.{add-one}
 use lib.ListN.{length, getD, take, drop, set, length-set, length-take, length-drop, drop-of-length-le}
 use lib.Seq.{paste, drop-cons, drop-drop, drop-at, drop-set-lt, length-paste}
 use lib.Dec.{eqb}
 use borrow.Author.Tests.{ne-eqb, eqb-true}
-use Rattle.meaning.specs.Elements.{Element, kind, body, cut, join, size, isKind}
+use Rattle.meaning.specs.Elements.{Element, kind, body, cut, join, size}
 use Rattle.meaning.specs.Machine.{holds}
 use Rattle.meaning.proofs.Truth.{never, or-left}
-use Rattle.meaning.proofs.Cutting.{Whole, w-none, w-more, cut-at}
+use Rattle.meaning.proofs.Cutting.{Whole, cut-at}
 use Rattle.meaning.proofs.Leading.{holds-append, join-append, size-append}
 use Rattle.kinds.specs.Characters.{Characters, no-character, one-character}
-use Rattle.scanning.specs.State.{fieldAt, Good, stack, Opens, isCall, marksOf, calm, Standing, Reached, Next, Advanced}
-use Rattle.scanning.proofs.Marks.{size-nil, size-cons, whole-right, whole-first, join-whole, stack-push, opens-no7, opens-many, opens-call, no-close, FirstMark, first-mark, no-mark, Calmed, all-calm, then-call, calmed, calm-call, calm-plain}
-use Rattle.scanning.proofs.Gap.{front-bytes, back-bytes, back-long, kind-at, slid-down}
+use Rattle.scanning.specs.State.{fieldAt, Good, isCall, marksOf, calm, Standing, Reached, Next, Advanced}
+use Rattle.scanning.proofs.Marks.{size-nil, size-cons, whole-right, whole-first, join-whole, stack-push, opens-no7, opens-many, opens-call, no-close, first-mark, no-mark, Calmed, all-calm, then-call, calmed, calm-call, calm-plain}
+use Rattle.scanning.proofs.Gap.{back-bytes, back-long, kind-at, slid-down}
 
 -- READING
 pub record Seeking (f : List ℕ) (at i : ℕ) : Type 0 where
@@ -238,9 +238,6 @@ module _ (f : List ℕ) (lo hi at read depth top : ℕ) (calls : List ℕ) (good
   in-notes = let b = r .below in let i = r .inside in omega arith
 
   module _ (f′ calls′ : List ℕ) (e : f′ ≡ paste f lo (drop hi f) (at + 3 - hi)) (c : calls′ ≡ set calls depth (lo + (at + 3 - hi) - 3)) where
-    n : ℕ
-    n = at + 3 - hi
-
     pub open-same : fieldAt f′ (lo + (at + 3 - hi)) (hi + (at + 3 - hi)) ≡ fieldAt f lo hi
     open-same = slid-down f f′ lo hi (at + 3 - hi) (may-move .0) (may-move .1) e
 

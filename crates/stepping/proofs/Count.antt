@@ -1,12 +1,12 @@
 -- How many call brackets a field has, and where those of a right side come to stand.
-use mathlib.Core.Path.{_≡_, refl, sym, _∙_, ap, ap₂, subst}
-use mathlib.Core.Bool.{true, false, _||_}
-use mathlib.Core.Option.{none, some}
+use mathlib.Core.Path.{_≡_, refl, sym, _∙_, ap, ap₂}
+use mathlib.Core.Bool.{true, false}
+use mathlib.Core.Option.{some}
 use mathlib.Core.List.{List, [], _∷_, _++_, append-assoc}
-use Prim.Native.Nat.{ℕ, zero, suc, _+_, _*_, _-_, _≤_, _<_}
+use Prim.Native.Nat.{ℕ, zero, suc, _+_, _*_, _≤_}
 use native.Mathlib.Omega.{arith}
-use lib.ListN.{length, getD, take, drop, length-append, length-take, length-drop}
-use lib.Seq.{sets, sets-eq, drop-at, take-at, take-append-le, length-take-le, getD-take}
+use lib.ListN.{length, getD, take, drop}
+use lib.Seq.{sets, sets-eq, drop-at, take-at, length-take-le, getD-take}
 use lib.Dec.{eqb}
 use borrow.Author.Tests.{eqb-true, ne-eqb}
 use Rattle.meaning.specs.Elements.{Element, kind, body, size, same, isKind, isVariable, among}
@@ -16,7 +16,6 @@ use Rattle.meaning.specs.Matching.{put}
 use Rattle.meaning.proofs.Truth.{never, is-true, is-false, see, or-false, or-right, same-refl}
 use Rattle.meaning.proofs.Cutting.{Whole, w-none, w-more}
 use Rattle.meaning.proofs.Balance.{brackets, brackets-4, brackets-5, brackets-6, brackets-7, brackets-5-bad, brackets-7-bad, passes, b4, b5, b6, b7, b0, brace}
-use Rattle.meaning.proofs.Leading.{size-append}
 use Rattle.scanning.specs.State.{isCall, marksOf, stack, Opens, none-open, one-open}
 use Rattle.scanning.proofs.Marks.{size-nil, size-cons}
 use Rattle.building.specs.Build.{callsOf, spanOf, placed, Calm}

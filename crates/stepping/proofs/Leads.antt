@@ -1,11 +1,11 @@
 -- The leading term is found, and its argument brought into one piece.
-use mathlib.Core.Path.{_≡_, refl, sym, _∙_, ap, subst}
+use mathlib.Core.Path.{_≡_, refl, sym, _∙_, ap}
 use mathlib.Core.Bool.{true, false, _&&_}
 use mathlib.Core.List.{List, [], _∷_, _++_, append-assoc, append-nil}
 use Prim.Native.Nat.{ℕ, zero, suc, _+_, _*_, _-_, _≤_, _<_}
 use native.Mathlib.Omega.{arith}
 use native.Mathlib.Numerals.{sub-one}
-use lib.ListN.{length, getD, take, drop, length-drop}
+use lib.ListN.{length, getD, drop, length-drop}
 use lib.Seq.{paste, length-paste}
 use Rattle.meaning.specs.Elements.{Element, kind, body, size, isKind}
 use Rattle.meaning.specs.Machine.{before, behind, holds, innermost, lead, leading}
@@ -14,11 +14,11 @@ use Rattle.meaning.proofs.Cutting.{Whole}
 use Rattle.meaning.proofs.Leading.{holds-append, size-append, leading-left, leading-here}
 use Rattle.meaning.proofs.Balance.{call-first, fours}
 use Rattle.scanning.specs.State.{fieldAt, Good, stack, Opens, none-open, one-open, Reached}
-use Rattle.scanning.proofs.Marks.{size-nil, size-cons, whole-left, whole-right, opens-no7}
+use Rattle.scanning.proofs.Marks.{size-cons, whole-left, whole-right, opens-no7}
 use Rattle.scanning.proofs.Gap.{slid-up}
 use Rattle.choosing.proofs.Rest.{whole-one}
 use Rattle.choosing.proofs.Fill.{before-at, behind-at}
-use Rattle.stepping.specs.Stepping.{Term, Under}
+use Rattle.stepping.specs.Stepping.{Under}
 use Rattle.stepping.proofs.Count.{stack-long}
 
 holds-mid : (k : ℕ) (xs : List Element) (g : Element) (more : List Element) → isKind k g ≡ true → holds k (xs ++ (g ∷ more)) ≡ true

@@ -3,20 +3,20 @@ use mathlib.Core.Path.{_≡_, refl, sym, _∙_, ap, subst}
 use mathlib.Core.Bool.{Bool, true, false}
 use mathlib.Core.Option.{Option, none, some}
 use mathlib.Core.List.{List, [], _∷_, _++_, append-assoc}
-use Prim.Native.Nat.{ℕ, zero, suc, _+_, _-_, _*_, _≤_, _<_}
+use Prim.Native.Nat.{ℕ, _+_, _-_, _*_, _≤_, _<_}
 use native.Mathlib.Omega.{arith}
 use lib.ListN.{length, getD, take, drop, length-take, length-drop}
 use lib.Seq.{sets, length-sets}
 use Rattle.meaning.specs.Elements.{Element, elements, join, size, among, isVariable}
 use Rattle.meaning.specs.Matching.{put}
-use Rattle.meaning.specs.Machine.{apply, function, step, stuck, onward}
+use Rattle.meaning.specs.Machine.{apply, function, step, onward}
 use Rattle.meaning.proofs.Truth.{never}
 use Rattle.meaning.proofs.Cutting.{Whole}
 use Rattle.meaning.proofs.Programs.{Functions}
 use Rattle.meaning.proofs.Leading.{size-append}
 use Rattle.meaning.proofs.Steps.{step-good}
-use Rattle.scanning.specs.State.{fieldAt, Good, stack, Opens, marksOf, Standing}
-use Rattle.building.specs.Build.{sideOf, pour, Ready, Calm, spans, callsOf, placed, Given, Pivot, Measured}
+use Rattle.scanning.specs.State.{fieldAt, Good, marksOf}
+use Rattle.building.specs.Build.{sideOf, pour, Ready, Calm, spans, callsOf, placed, Given, Measured}
 use Rattle.building.proofs.Spans.{pour-long}
 use Rattle.choosing.specs.Choose.{restOf, sentences, Body, Looked, there, nowhere, Chosen, none-fits, one-fits}
 use Rattle.choosing.specs.declared.Spot.{Spot}

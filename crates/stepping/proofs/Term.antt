@@ -3,13 +3,13 @@ use mathlib.Core.Path.{_≡_, refl, sym, _∙_, ap, ap₂, subst}
 use mathlib.Core.Bool.{true, false}
 use mathlib.Core.Option.{Option, none, some}
 use mathlib.Core.List.{List, [], _∷_, _++_, append-assoc, append-nil, tail}
-use Prim.Native.Nat.{ℕ, zero, suc, _+_, _*_, _-_, _≤_, _<_}
+use Prim.Native.Nat.{ℕ, _+_, _-_, _≤_, _<_}
 use native.Mathlib.Omega.{arith}
-use lib.ListN.{length, getD, take, drop, length-append, List·getD-append, length-drop}
+use lib.ListN.{length, getD, take, drop, length-append, length-drop}
 use lib.Seq.{take-take, take-at, drop-at, drop-drop, getD-take, getD-append-add, length-take-le, take-append-le}
 use lib.Dec.{leb}
 use borrow.Author.Tests.{le-leb, lt-leb}
-use Rattle.meaning.specs.Elements.{Element, kind, body, cut, elements, join, size}
+use Rattle.meaning.specs.Elements.{Element, body, cut, elements, join, size}
 use Rattle.meaning.specs.Machine.{Step, stuck, onward, fitIn, replace, call, stepAt, step, apply, function}
 use Rattle.meaning.proofs.Truth.{never}
 use Rattle.meaning.proofs.Cutting.{Whole, w-none, w-more}
