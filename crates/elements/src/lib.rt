@@ -217,9 +217,9 @@ impl Cursor {
         )
     }
 
-    // Passes over one whole element by its kind alone, and hands the moved cursor back.
+    // Passes over one element by its kind alone, and hands the moved cursor back: past the end, where the element is cut short.
     pub fn pass(self, s: &[u8]) -> Passed
-        requires { ⌜ ProperAt (now s) (self .at) ⌝ }
+        requires { ⌜ self .at < length (now s) ⌝ }
         ensures { λ r. ⌜ PassedOver (now (s .entry)) (self .at) (r .kind) (r .next .at) ⌝ }
     {
         let at = self.at;

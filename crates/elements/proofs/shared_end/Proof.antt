@@ -1,10 +1,11 @@
 use Rattle.elements.proofs.Values.{a-not-bad, a-not-over, b-bad, b-over, shared, different, got-number}
+use Rattle.elements.proofs.Places.{proper-inside}
 use borrow.Author.Needs.{needs}
 use Rattle.elements.proofs.shared_end.Statement.{statement}
 use Rattle.elements.proofs.shared_end.Tie as tie
 
 pass-requires : tie.Need-pass-requires
-pass-requires c κs = search needs
+pass-requires c κs = proper-inside (c .before .before .pre .0)
 
 shared-bytes-requires : tie.Need-shared-bytes-requires
 shared-bytes-requires c κs = (c .before .before .before .before .before .before .pre .0, c .before .before .before .pass .ensures .next-is, c .before .before .before .before .before .before .pre .1)

@@ -3,6 +3,7 @@ use Rattle.matching.proofs.Going.{left-proper, next-here, Going, going-
 use Rattle.matching.proofs.Slots.{kept-self}
 use lib.ListN.{length}
 use native.Mathlib.Omega.{arith}
+use Rattle.elements.proofs.Places.{proper-inside}
 use borrow.Author.Needs.{needs}
 use Prim.Native.Nat.{ℕ, _+_, _-_, _*_, _<_}
 use borrow.Fn.Kinds.{In}
@@ -62,7 +63,7 @@ match-rest-loop-holds : (t : ℕ) → match-rest-lts.Need-loop-holds (match-rest
 match-rest-loop-holds t c = going-start (c .before .before .before .pre .1)
 
 match-rest-pass-requires : (t : ℕ) → match-rest-lts.Need-pass-requires (match-rest-calls t) (match-rest-at t) match-rest.Post match-rest-Inv-loop match-rest-μ-loop
-match-rest-pass-requires t c κs = left-proper (going-left (c .before .loop .inv) (c .loop-test .taken))
+match-rest-pass-requires t c κs = proper-inside (left-proper (going-left (c .before .loop .inv) (c .loop-test .taken)))
 
 match-rest-slot-at-requires : (t : ℕ) → match-rest-lts.Need-slot-at-requires (match-rest-calls t) (match-rest-at t) match-rest.Post match-rest-Inv-loop match-rest-μ-loop
 match-rest-slot-at-requires t c κs = ((going-left (c .before .before .before .loop .inv) (c .before .before .loop-test .taken)), c .before .pass .ensures .kind-is)

@@ -5,12 +5,13 @@ use Rattle.kinds.specs.Slots.{valueOf}
 use native.Mathlib.Omega.{arith}
 use Prim.Native.Nat.{_-_}
 use mathlib.Core.Path.{_≡_, sym, _∙_}
+use Rattle.elements.proofs.Places.{proper-inside}
 use borrow.Author.Needs.{needs}
 use Rattle.matching.proofs.before_bracket.Statement.{statement}
 use Rattle.matching.proofs.before_bracket.Tie as tie
 
 pass-requires : tie.Need-pass-requires
-pass-requires c κs = left-proper (c .before .before .before .pre .0)
+pass-requires c κs = proper-inside (left-proper (c .before .before .before .pre .0))
 
 slot-at-requires : tie.Need-slot-at-requires
 slot-at-requires c κs = (c .before .before .before .before .before .pre .0, c .before .pass .ensures .kind-is)

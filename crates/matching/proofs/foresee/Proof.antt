@@ -6,12 +6,13 @@ use Rattle.kinds.specs.Slots.{valueOf}
 use borrow.Author.Tests.{eqb-true}
 use native.Mathlib.Omega.{arith}
 use mathlib.Core.Path.{sym, _∙_}
+use Rattle.elements.proofs.Places.{proper-inside}
 use borrow.Author.Needs.{needs}
 use Rattle.matching.proofs.foresee.Statement.{statement}
 use Rattle.matching.proofs.foresee.Tie as tie
 
 pass-requires : tie.Need-pass-requires
-pass-requires c κs = left-proper (c .before .before .before .pre .0)
+pass-requires c κs = proper-inside (left-proper (c .before .before .before .pre .0))
 
 before-bracket-requires : tie.Need-before-bracket-requires
 before-bracket-requires c κs = (opening-next (c .before .before .before .before .before .before .before .pre .0) (next-here (c .before .before .before .before .before .before .before .pre .0) (c .before .before .before .pass .ensures) (slot-fixed (c .before .before .before .before .before .before .before .pre .0) (omega (arith, (sym (c .before .before .before .pass .ensures .kind-is) ∙ c .if1 .taken))))) (sym (c .before .before .before .pass .ensures .kind-is) ∙ c .if1 .taken) .1, c .before .before .before .before .before .before .before .pre .1 .table)
