@@ -35,12 +35,16 @@ join-cut-from (suc n) (b ∷ bs) = join-cut-from n bs
 pub join-cut : (bs : List ℕ) → join (cut 0 bs) ≡ bs
 join-cut bs = join-cut-from 0 bs
 
--- each element has its mayEnd body
+-- each element has its whole body
 pub data Whole : List Element → Type 0 where
   w-none : Whole []
   w-more : {k : ℕ} {b : List ℕ} {es : List Element} → length b ≡ body k → Whole es → Whole ((k ∷ b) ∷ es)
 
--- joining loses nothing of mayEnd elements, whatever stands behind them
+pub whole-append : {xs ys : List Element} → Whole xs → Whole ys → Whole (xs ++ ys)
+whole-append w-none w = w
+whole-append (w-more h v) w = w-more h (whole-append v w)
+
+-- joining loses nothing of whole elements, whatever stands behind them
 pub cut-join : {es : List Element} → Whole es → (bs : List ℕ) → cut 0 (join es ++ bs) ≡ es ++ cut 0 bs
 unfolding join
 cut-join w-none bs = refl

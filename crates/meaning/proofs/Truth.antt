@@ -1,13 +1,14 @@
--- Tests with their values, and small facts on Bool.
+-- Tests with their values, and small facts on Bool and on spans.
 use mathlib.Core.Path.{_≡_, refl, ap₂}
 use mathlib.Core.Bool.{Bool, true, false, _&&_, _||_, not}
 use mathlib.Core.Option.{Option, none, some}
 use mathlib.Core.List.{List, [], _∷_}
-use Prim.Native.Nat.{ℕ}
+use Prim.Native.Nat.{ℕ, _≤_}
 use native.Mathlib.Omega.{arith}
-use lib.Dec.{T, eqb}
-use borrow.Author.Tests.{eqb-true, eq-eqb}
+use lib.Dec.{T, eqb, leb}
+use borrow.Author.Tests.{eqb-true, eq-eqb, leb-true}
 use Rattle.meaning.specs.Elements.{same}
+use Rattle.meaning.specs.Goodness.{span}
 
 -- 0 is not 1
 pub never : {A : Type 0} → _≡_ {A = ℕ} 0 1 → A
@@ -78,3 +79,7 @@ pub same-refl : (x : List ℕ) → same x x ≡ true
 unfolding same
 same-refl [] = refl
 same-refl (a ∷ xs) = rw (eq-eqb a a refl) (same-refl xs)
+
+pub span-le : (a b n : ℕ) → span a b n ≡ true → (a ≤ n) × (n ≤ b)
+unfolding span
+span-le a b n h = (leb-true a n (and-left (leb a n) _ h), leb-true n b (and-right (leb a n) _ h))
