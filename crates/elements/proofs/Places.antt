@@ -6,7 +6,7 @@ use Prim.Native.Nat.{ℕ, suc, _+_, _-_, _^_, _≤_, _<_}
 use native.Mathlib.Omega.{arith}
 use lib.ListN.{length, getD, take, drop, length-append, length-take, length-drop, drop-of-length-le}
 use lib.Dec.{T, leb}
-use borrow.Author.Tests.{leb-true, leb-false}
+use borrow.Author.Tests.{leb-true, leb-false, le-leb, lt-leb}
 use Rattle.meaning.specs.Elements.{kind, body, cut, elements, join, isSymbol}
 use Rattle.meaning.specs.Goodness.{span}
 use Rattle.meaning.specs.Matching.{Terms, symbol, bracket}
@@ -14,10 +14,10 @@ use Rattle.meaning.proofs.Truth.{never, and-left, and-right, T-true, is-true, i
 use Rattle.meaning.proofs.Cutting.{cut-at, join-cut}
 use Rattle.meaning.proofs.Leading.{join-append}
 use Rattle.elements.specs.declared.Element.{Element}
-use Rattle.elements.specs.declared.Reading.the-variants.{Got, Bad}
+use Rattle.elements.specs.declared.Reading.the-variants.{Got, Unknown, Cut, End}
 use Rattle.elements.specs.declared.Found.the-variants.{Nothing}
 use Rattle.elements.specs.Bytes.{kindOf, numberOf, digits, bytesOf}
-use Rattle.elements.specs.Reading.{Splits, ReadAt, bad, got, Balanced, symbols, opening, closing, SymbolEnd, no-symbol, TermEnd, no-term, ProperAt}
+use Rattle.elements.specs.Reading.{Splits, ReadAt, over, unknown, short, got, Balanced, symbols, opening, closing, SymbolEnd, no-symbol, TermEnd, no-term, ProperAt}
 
 -- an element without a body has the number 0
 pub no-number : (k j n : ℕ) → k ≡ j → body j ≡ 0 → n < 256 ^ body k → 0 ≡ n
@@ -59,23 +59,18 @@ module _ (s : List ℕ) (at : ℕ) (h : at < length s) where
   pub bare-whole : (b : ℕ) → here ≡ b ∷ [] → body b ≡ 0 → length here ≡ suc (body (getD s at 0))
   bare-whole b q z = ap length q ∙ (let e : getD s at 0 ≡ b = sym kind-here ∙ ap kind q in rw (e, z))
 
-  short-here : length s - at ≤ body (getD s at 0) → length here ≡ suc (body (getD s at 0)) → ⊥
-  short-here l e = let r = room e in omega arith
-
   -- what a cursor reads
-  pub read-unknown : (getD s at 0 ≡ 0) → ReadAt s at Bad
+  pub read-low : getD s at 0 ≡ 0 → ReadAt s at Unknown
   unfolding span
-  read-unknown z =
-      bad h (λ e es q w. never (let k : kind e ≡ 0 = (let i : here ≡ e = cc cut-here in sym (ap kind i) ∙ kind-here ∙ z) in let b : false ≡ true = rw k at (w .known) in cc))
+  read-low z = unknown h (rw z)
 
-  pub read-high : 15 < getD s at 0 → ReadAt s at Bad
+  pub read-high : 15 < getD s at 0 → ReadAt s at Unknown
   unfolding span
-  read-high z =
-      bad h (λ e es q w. never (let k : kind e ≡ getD s at 0 = (let i : here ≡ e = cc cut-here in sym (ap kind i) ∙ kind-here) in let b = leb-true (kind e) 15 (and-right (leb 1 (kind e)) _ (w .known)) in omega arith))
+  read-high z = unknown h (rw (le-leb 1 (getD s at 0) (omega arith), lt-leb (getD s at 0) 15 z))
 
-  pub read-short : length s - at ≤ body (getD s at 0) → ReadAt s at Bad
-  read-short z =
-      bad h (λ e es q w. short-here z (let i : here ≡ e = cc cut-here in rw i (w .long ∙ ap (λ (x : List ℕ). suc (body (kind x))) (sym i) ∙ rw kind-here)))
+  pub read-short : (getD s at 0 ≡ 0 → ⊥) → getD s at 0 ≤ 15 → length s - at ≤ body (getD s at 0) → ReadAt s at Cut
+  unfolding span
+  read-short n l z = short h (rw (le-leb 1 (getD s at 0) (omega arith), le-leb (getD s at 0) 15 l)) z
 
   pub read-got : (w n : ℕ) (x : Element) → w ≡ body (getD s at 0) → w < length s - at → digits w n ≡ take w (drop (at + 1) s) → n < 256 ^ w
       → kindOf x ≡ getD s at 0 → numberOf x ≡ n → ReadAt s at (Got x (record { at = at + 1 + w }))
@@ -99,6 +94,23 @@ module _ {s : List ℕ} {at : ℕ} (p : ProperAt s at) where
       let h = proper-inside in
       let i : here s at h ≡ p .e = cc (cut-here s at h, p .is) in
       rw i at (splits-here s at h (rw i (p .whole .long ∙ ap (λ (x : List ℕ). suc (body (kind x))) (sym i) ∙ rw (kind-here s at h))))
+
+  -- it is read
+  pub not-over : ReadAt s at End → ⊥
+  not-over (over l) = let h = proper-inside in omega arith
+
+  pub not-unknown : ReadAt s at Unknown → ⊥
+  not-unknown (unknown h z) =
+      let i : here s at h ≡ p .e = cc (cut-here s at h, p .is) in
+      let k : kind (p .e) ≡ getD s at 0 = sym (ap kind i) ∙ kind-here s at h in
+      let y : span 1 15 (getD s at 0) ≡ true = rw k at (p .whole .known) in
+      never (cc)
+
+  pub not-cut : ReadAt s at Cut → ⊥
+  not-cut (short h z l) = let r = proper-splits .fits in omega arith
+
+pub proper-too : {a b : List ℕ} {at : ℕ} → ProperAt a at → elements (drop at a) ≡ elements (drop at b) → ProperAt b at
+proper-too p q = record { e = p .e; es = p .es; is = sym q ∙ p .is; whole = p .whole }
 
 -- SYMBOLS AND TERMS, where an argument is balanced
 

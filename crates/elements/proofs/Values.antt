@@ -13,10 +13,10 @@ use Rattle.meaning.proofs.Truth.{never, is-true, is-false, see}
 use Rattle.meaning.proofs.Cutting.{Whole, w-none, w-more, cut-join, join-cut}
 use Rattle.elements.specs.declared.Element.{Element}
 use Rattle.elements.specs.declared.Cursor.{Cursor}
-use Rattle.elements.specs.declared.Reading.the-variants.{Got, Bad, End}
+use Rattle.elements.specs.declared.Reading.the-variants.{Got}
 use Rattle.elements.specs.declared.Found.the-variants.{At, Nothing}
 use Rattle.elements.specs.Bytes.{kindOf, numberOf, digits, bytesOf, Told}
-use Rattle.elements.specs.Reading.{Splits, ReadAt, over, bad, got, Proper, more, ProperAt, Shared, both, differ, Comparing}
+use Rattle.elements.specs.Reading.{Splits, ReadAt, got, Proper, more, ProperAt, Shared, both, differ, Comparing}
 use Rattle.elements.proofs.Digits.{digits-same, two-bytes}
 use Rattle.elements.proofs.Places.{here, cut-here, none-left, proper-splits, split-bytes, split-size}
 
@@ -57,25 +57,6 @@ module _ (x : List ℕ) (i : ℕ) (y : List ℕ) (at : ℕ) where
 -- WHAT IS SHARED AT A PLACE
 
 module _ (a b : List ℕ) (at : ℕ) (p : ProperAt a at) where
-  -- equal rests are read alike: where a has a whole element, so has b
-  whole-b : elements (drop at a) ≡ elements (drop at b) → ReadAt b at Bad → ⊥
-  whole-b q (bad h f) = f (p .e) (p .es) (sym q ∙ p .is) (p .whole)
-
-  inside-b : elements (drop at a) ≡ elements (drop at b) → ReadAt b at End → ⊥
-  inside-b q (over h) = never (cc (p .is, none-left b at h))
-
-  pub a-not-bad : ReadAt a at Bad → ⊥
-  a-not-bad (bad h f) = f (p .e) (p .es) (p .is) (p .whole)
-
-  pub a-not-over : ReadAt a at End → ⊥
-  a-not-over (over h) = never (cc (p .is, none-left a at h))
-
-  pub b-bad : ReadAt b at Bad → Shared a b at Nothing
-  b-bad r = differ (λ q. whole-b q r)
-
-  pub b-over : ReadAt b at End → Shared a b at Nothing
-  b-over r = differ (λ q. inside-b q r)
-
   pub shared : {x y : Element} {c d : Cursor} → ReadAt a at (Got x c) → ReadAt b at (Got y d) → bytesOf x ≡ bytesOf y → Shared a b at (At (c .at))
   shared {x} {y} {c} {d} (got nx lx sx) (got ny ly sy) e =
       let z : d .at ≡ c .at = omega (arith, split-size sx, split-size sy, ap (λ (l : List ℕ). length (join (l ∷ []))) e, sx .on, sy .on) in

@@ -1,6 +1,6 @@
 -- What stands at a place of some bytes.
 use mathlib.Core.Path.{_≡_}
-use mathlib.Core.Bool.{true, cond}
+use mathlib.Core.Bool.{true, false, cond}
 use mathlib.Core.List.{List, [], _∷_, _++_}
 use Prim.Native.Nat.{ℕ, suc, _+_, _-_, _^_, _≤_, _<_}
 use lib.ListN.{length, getD, take, drop}
@@ -11,7 +11,7 @@ use Rattle.meaning.specs.Matching.{Terms}
 use Rattle.elements.specs.declared.Element.{Element}
 use Rattle.elements.specs.declared.Cursor.{Cursor}
 use Rattle.elements.specs.declared.Reading.{Reading}
-use Rattle.elements.specs.declared.Reading.the-variants.{Got, Bad, End}
+use Rattle.elements.specs.declared.Reading.the-variants.{Got, Unknown, Cut, End}
 use Rattle.elements.specs.declared.Found.{Found}
 use Rattle.elements.specs.declared.Found.the-variants.{At, Nothing}
 use Rattle.elements.specs.Bytes.{kindOf, numberOf, bytesOf}
@@ -30,7 +30,8 @@ pub record Whole1 (e : List ℕ) : Type 0 where
 -- what a cursor at a place reads
 pub data ReadAt (s : List ℕ) (at : ℕ) : Reading → Type 0 where
   over : length s ≤ at → ReadAt s at End
-  bad : at < length s → ((e : List ℕ) (es : List (List ℕ)) → elements (drop at s) ≡ e ∷ es → Whole1 e → ⊥) → ReadAt s at Bad
+  unknown : at < length s → span 1 15 (getD s at 0) ≡ false → ReadAt s at Unknown
+  short : at < length s → span 1 15 (getD s at 0) ≡ true → length s - at ≤ body (getD s at 0) → ReadAt s at Cut
   got : {x : Element} {c : Cursor} → numberOf x < 256 ^ body (kindOf x) → at < c .at → Splits s at (bytesOf x ∷ []) (c .at) → ReadAt s at (Got x c)
 
 -- an element passed over: its kind, and the place behind it

@@ -36,9 +36,11 @@ pub struct Passed {
     pub next: Cursor,
 }
 
+// What a cursor reads: an element and the moved cursor; a kind that is unknown; a body that is cut short; or that nothing is left.
 pub enum Reading {
     Got(Element, Cursor),
-    Bad,
+    Unknown,
+    Cut,
     End,
 }
 
@@ -202,14 +204,14 @@ impl Cursor {
         }
         let k = s[at];
         if k == 0 {
-            return Reading::Bad;
+            return Reading::Unknown;
         }
         if 15 < k {
-            return Reading::Bad;
+            return Reading::Unknown;
         }
         let width = kinds::body_of(k);
         if s.len() - at <= width {
-            return Reading::Bad;
+            return Reading::Cut;
         }
         Reading::Got(
             make(k, number_at(s, at + 1, width)),
@@ -383,10 +385,12 @@ fn shared_end(a: &[u8], b: &[u8], at: usize) -> Found
                     Found::Nothing
                 }
             }
-            Reading::Bad => Found::Nothing,
+            Reading::Unknown => Found::Nothing,
+            Reading::Cut => Found::Nothing,
             Reading::End => Found::Nothing,
         },
-        Reading::Bad => Found::Nothing,
+        Reading::Unknown => Found::Nothing,
+        Reading::Cut => Found::Nothing,
         Reading::End => Found::Nothing,
     }
 }

@@ -1,5 +1,6 @@
-use Rattle.elements.proofs.Values.{a-not-bad, a-not-over, b-bad, b-over, shared, different, got-number}
-use Rattle.elements.proofs.Places.{proper-inside}
+use Rattle.elements.proofs.Values.{shared, different, got-number}
+use Rattle.elements.proofs.Places.{proper-inside, proper-too, not-over, not-unknown, not-cut}
+use Rattle.elements.specs.Reading.{differ}
 use borrow.Author.Needs.{needs}
 use Rattle.elements.proofs.shared_end.Statement.{statement}
 use Rattle.elements.proofs.shared_end.Tie as tie
@@ -40,6 +41,12 @@ enum-told-3 c = search needs
 enum-told-4 : tie.Need-enum-told-4
 enum-told-4 c = search needs
 
+enum-told-5 : tie.Need-enum-told-5
+enum-told-5 c = search needs
+
+enum-told-6 : tie.Need-enum-told-6
+enum-told-6 c = search needs
+
 returns-2 : tie.Need-returns-2
 returns-2 c = shared (c .before .before .before .before .before .before .before .before .before .before .before .before .before .before .before .args .a .now) (c .before .before .before .before .before .before .before .before .before .before .before .before .before .before .before .args .b .now) (c .before .before .before .before .before .before .before .before .before .before .before .before .before .before .before .args .at) (c .before .before .before .before .before .before .before .before .before .before .before .before .before .before .before .pre .0) (rw (c .before .before .before .before .before .before .before .x .given .1) at (c .before .before .before .before .before .before .before .before .before .read .ensures)) (rw (c .before .before .before .y .given .1) at (c .before .before .before .before .before .read2 .ensures)) (rw (c .if2 .taken) at (c .before .same .ensures))
 
@@ -47,16 +54,28 @@ returns-3 : tie.Need-returns-3
 returns-3 c = different (c .before .before .before .before .before .before .before .before .before .before .before .before .before .before .before .args .a .now) (c .before .before .before .before .before .before .before .before .before .before .before .before .before .before .before .args .b .now) (c .before .before .before .before .before .before .before .before .before .before .before .before .before .before .before .args .at) (c .before .before .before .before .before .before .before .before .before .before .before .before .before .before .before .pre .0) (rw (c .before .before .before .before .before .before .before .x .given .1) at (c .before .before .before .before .before .before .before .before .before .read .ensures)) (rw (c .before .before .before .y .given .1) at (c .before .before .before .before .before .read2 .ensures)) (rw (c .if2 .left) at (c .before .same .ensures))
 
 returns-4 : tie.Need-returns-4
-returns-4 c = b-bad (c .before .before .before .before .before .before .before .before .before .before .before .before .args .a .now) (c .before .before .before .before .before .before .before .before .before .before .before .before .args .b .now) (c .before .before .before .before .before .before .before .before .before .before .before .before .args .at) (c .before .before .before .before .before .before .before .before .before .before .before .before .pre .0) (rw (c .enum-told .given .1) at (c .before .before .read2 .ensures))
+returns-4 c =
+    let p = c .before .before .before .before .before .before .before .before .before .before .before .before .pre .0 in
+    differ (λ q. not-unknown (proper-too p q) (rw (c .enum-told .given .1) at (c .before .before .read2 .ensures)))
 
 returns-5 : tie.Need-returns-5
-returns-5 c = b-over (c .before .before .before .before .before .before .before .before .before .before .before .before .args .a .now) (c .before .before .before .before .before .before .before .before .before .before .before .before .args .b .now) (c .before .before .before .before .before .before .before .before .before .before .before .before .args .at) (c .before .before .before .before .before .before .before .before .before .before .before .before .pre .0) (rw (c .enum-told2 .given .1) at (c .before .before .read2 .ensures))
+returns-5 c =
+    let p = c .before .before .before .before .before .before .before .before .before .before .before .before .pre .0 in
+    differ (λ q. not-cut (proper-too p q) (rw (c .enum-told2 .given .1) at (c .before .before .read2 .ensures)))
 
 returns-6 : tie.Need-returns-6
-returns-6 c = absurd (a-not-bad (c .before .before .before .before .before .before .before .before .args .a .now) (c .before .before .before .before .before .before .before .before .args .b .now) (c .before .before .before .before .before .before .before .before .args .at) (c .before .before .before .before .before .before .before .before .pre .0) (rw (c .enum-told3 .given .1) at (c .before .before .read .ensures)))
+returns-6 c =
+    let p = c .before .before .before .before .before .before .before .before .before .before .before .before .pre .0 in
+    differ (λ q. not-over (proper-too p q) (rw (c .enum-told3 .given .1) at (c .before .before .read2 .ensures)))
 
 returns-7 : tie.Need-returns-7
-returns-7 c = absurd (a-not-over (c .before .before .before .before .before .before .before .before .args .a .now) (c .before .before .before .before .before .before .before .before .args .b .now) (c .before .before .before .before .before .before .before .before .args .at) (c .before .before .before .before .before .before .before .before .pre .0) (rw (c .enum-told4 .given .1) at (c .before .before .read .ensures)))
+returns-7 c = absurd (not-unknown (c .before .before .before .before .before .before .before .before .pre .0) (rw (c .enum-told4 .given .1) at (c .before .before .read .ensures)))
+
+returns-8 : tie.Need-returns-8
+returns-8 c = absurd (not-cut (c .before .before .before .before .before .before .before .before .pre .0) (rw (c .enum-told5 .given .1) at (c .before .before .read .ensures)))
+
+returns-9 : tie.Need-returns-9
+returns-9 c = absurd (not-over (c .before .before .before .before .before .before .before .before .pre .0) (rw (c .enum-told6 .given .1) at (c .before .before .read .ensures)))
 
 pub shared-end-spec : {M : Type 1} → statement M
 shared-end-spec =
@@ -74,9 +93,13 @@ shared-end-spec =
     enum-told-2
     enum-told-3
     enum-told-4
+    enum-told-5
+    enum-told-6
     returns-2
     returns-3
     returns-4
     returns-5
     returns-6
-    returns-7)
+    returns-7
+    returns-8
+    returns-9)

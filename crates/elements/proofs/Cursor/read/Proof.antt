@@ -1,4 +1,4 @@
-use Rattle.elements.proofs.Places.{read-unknown, read-high, read-short, read-got}
+use Rattle.elements.proofs.Places.{read-low, read-high, read-short, read-got}
 use Rattle.elements.specs.Reading.{over}
 use native.Mathlib.Omega.{arith}
 use borrow.Author.Needs.{needs}
@@ -12,7 +12,7 @@ shared-slice-read-k : tie.Need-shared-slice-read-k
 shared-slice-read-k c = search needs
 
 returns-2 : tie.Need-returns-2
-returns-2 c = read-unknown (c .before .before .before .before .args .s .now) (c .before .before .before .before .args .self .at) (omega arith) (c .if2 .taken)
+returns-2 c = read-low (c .before .before .before .before .args .s .now) (c .before .before .before .before .args .self .at) (omega arith) (c .if2 .taken)
 
 returns-3 : tie.Need-returns-3
 returns-3 c = read-high (c .before .before .before .before .before .args .s .now) (c .before .before .before .before .before .args .self .at) (omega arith) (c .if3 .taken)
@@ -24,7 +24,7 @@ sub-if4 : tie.Need-sub-if4
 sub-if4 c = search needs
 
 returns-4 : tie.Need-returns-4
-returns-4 c = read-short (c .before .before .before .before .before .before .before .args .s .now) (c .before .before .before .before .before .before .before .args .self .at) (omega arith) (rw (c .before .body-of .ensures .0) at (c .if4 .taken))
+returns-4 c = read-short (c .before .before .before .before .before .before .before .args .s .now) (c .before .before .before .before .before .before .before .args .self .at) (omega arith) (c .before .before .before .if2 .left) (c .before .before .if3 .left) (rw (c .before .body-of .ensures .0) at (c .if4 .taken))
 
 add-number-at : tie.Need-add-number-at
 add-number-at c = search needs
