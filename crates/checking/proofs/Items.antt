@@ -10,10 +10,9 @@ use lib.Dec.{eqb, ltb}
 use borrow.Author.Tests.{eqb-true, eq-eqb, ne-eqb, ltb-true, ltb-false}
 use Rattle.meaning.specs.Elements.{body, bodies}
 use Rattle.meaning.specs.Goodness.{span, implies}
-use Rattle.meaning.proofs.Truth.{never, is-true, is-false, see, T-true}
+use Rattle.meaning.proofs.Truth.{never, is-true, is-false, see, T-true, span-le}
 use Rattle.meaning.proofs.Tables.{table-at}
-use Rattle.checking.specs.Standing.{Tells, elementAt}
-use Rattle.checking.proofs.Tests.{span-le}
+use Rattle.taking.specs.Standing.{Tells, elementAt}
 
 -- the body of a variable is one byte
 one : ℕ → ℕ → Bool

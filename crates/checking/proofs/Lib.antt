@@ -1,11 +1,4 @@
-pub mod Parts
-pub mod Opens
-pub mod Tests
-pub mod Variables
 pub mod Items
-pub mod Stepping
 pub mod Passing
 pub mod Reading
-pub mod Fields
-pub mod Scratch
 pub mod Only

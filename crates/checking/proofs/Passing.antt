@@ -10,15 +10,16 @@ use lib.Dec.{eqb, leb, ltb}
 use borrow.Author.Tests.{eqb-true, eqb-false, leb-false, ne-eqb, le-leb, lt-leb, lt-ltb}
 use Rattle.meaning.specs.Elements.{body}
 use Rattle.meaning.specs.Goodness.{left, right, span, stands, implies, endsSide, paired, underLimit, firstFailing, partAfter, sided}
-use Rattle.meaning.proofs.Truth.{never, is-true, is-false, see, or-right}
-use Rattle.checking.specs.declared.State.{State}
-use Rattle.checking.specs.declared.Item.{Item}
-use Rattle.checking.specs.Standing.{partOf, nextOf, opened, stackAfter, depthAfter, fresh, limitsOf, testsOf, Movable, movedTo, entireOf, HasRoom, Ready, Tells, elementAt, Steps, Tried}
-use Rattle.checking.proofs.Parts.{sided-is}
-use Rattle.checking.proofs.Opens.{neither-of as neither, alone, Becomes, none-moves}
-use Rattle.checking.proofs.Tests.{passes, span-from, span-low, span-le, under, fresh-plain, limits-old, limits-left}
+use Rattle.meaning.proofs.Truth.{never, is-true, is-false, see, or-right, span-le}
+use Rattle.taking.specs.declared.State.{State}
+use Rattle.taking.specs.declared.Item.{Item}
+use Rattle.taking.specs.Standing.{partOf, nextOf, opened, stackAfter, depthAfter, fresh, limitsOf, testsOf, Movable, movedTo, Ready, Tells, elementAt, Steps}
+use Rattle.checking.specs.Passing.{entireOf, HasRoom, Tried}
+use Rattle.taking.proofs.Parts.{sided-is}
+use Rattle.taking.proofs.Opens.{neither-of as neither, alone, Becomes, none-moves}
+use Rattle.taking.proofs.Tests.{passes, span-from, span-low, under, fresh-plain, limits-old, limits-left}
 use Rattle.checking.proofs.Items.{item-tells}
-use Rattle.checking.proofs.Stepping.{accepted}
+use Rattle.taking.proofs.Stepping.{accepted}
 
 pub plain : (k : ℕ) → k < 8 → span 8 10 k ≡ false
 plain k h = sym (span-low 8 10 k h) ∙ lt-leb 8 k h

@@ -3,7 +3,7 @@ use mathlib.Core.Path.{_≡_, refl, sym, _∙_, ap}
 use mathlib.Core.Bool.{Bool, true, false, cond}
 use mathlib.Core.Option.{Option, none, some}
 use mathlib.Core.Logic.{_⊎_, inl, inr}
-use mathlib.Core.List.{List, [], _∷_}
+use mathlib.Core.List.{List, _∷_, []}
 use Prim.Native.Nat.{ℕ, suc, _+_, _≤_, _<_}
 use native.Mathlib.Omega.{arith}
 use lib.ListN.{length, getD, drop, length-take, length-drop, drop-of-length-le}
@@ -13,14 +13,15 @@ use Rattle.meaning.specs.Elements.{Element, kind, body, cut}
 use Rattle.meaning.specs.Goodness.{Part, outside, start, left, after, State as Stage, at, span, stands, endsSide, underLimit, onRight, tests, fault, partAfter, sided, countAfter, stateAfter, mayEnd, firstBad, badProgram}
 use Rattle.meaning.proofs.Truth.{or-right}
 use Rattle.meaning.proofs.Cutting.{cut-at}
-use Rattle.checking.specs.declared.State.{State}
-use Rattle.checking.specs.declared.Item.{Item}
-use Rattle.checking.specs.declared.Taken.{Taken}
-use Rattle.checking.specs.Standing.{numberOf, partOf, nextOf, opened, movedTo, Means, entireOf, HasRoom, Ready, Tells, elementAt, Steps, Tried, Reading}
-use Rattle.checking.proofs.Parts.{sided-is, in-field, field-stays}
-use Rattle.checking.proofs.Tests.{all, stands-yes, fresh-plain, limits-old, count-side, moved-old}
-use Rattle.checking.proofs.Variables.{or-no, holds-none}
-use Rattle.checking.proofs.Opens.{neither-of as neither, none-moves, paired-none, alone}
+use Rattle.taking.specs.declared.State.{State}
+use Rattle.taking.specs.declared.Item.{Item}
+use Rattle.taking.specs.declared.Taken.{Taken}
+use Rattle.taking.specs.Standing.{numberOf, partOf, nextOf, opened, movedTo, Means, Ready, Tells, elementAt, Steps}
+use Rattle.checking.specs.Passing.{entireOf, HasRoom, Tried, Reading}
+use Rattle.taking.proofs.Parts.{sided-is, in-field, field-stays}
+use Rattle.taking.proofs.Tests.{all, stands-yes, fresh-plain, limits-old, count-side, moved-old}
+use Rattle.taking.proofs.Variables.{or-no, holds-none}
+use Rattle.taking.proofs.Opens.{neither-of as neither, none-moves, paired-none, alone}
 use Rattle.checking.proofs.Passing.{plain, end-plain, end-kind, no-end, good-steps, old-steps, tells, tells-plain}
 use Rattle.checking.proofs.Items.{body-one}
 

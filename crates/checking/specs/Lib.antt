@@ -1,3 +1,2 @@
 pub mod Answers
-pub mod Standing
-pub mod Fields
+pub mod Passing

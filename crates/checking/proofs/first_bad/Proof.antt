@@ -5,10 +5,10 @@ use lib.ListN.{length}
 use borrow.Author.Needs.{needs}
 use Rattle.meaning.specs.Goodness.{span, stands, partAfter, badProgram}
 use Rattle.checking.specs.Answers.{checkOf}
-use Rattle.checking.specs.Standing.{partOf, nextOf, Reading}
-use Rattle.checking.proofs.Parts.{leads, fits}
+use Rattle.taking.specs.Standing.{partOf, nextOf}
+use Rattle.checking.specs.Passing.{Reading}
+use Rattle.taking.proofs.Parts.{leads, fits}
 use Rattle.checking.proofs.Reading.{begun, ready, stopped, turned, over-good, over-early}
-use borrow.Author.Needs.{needs}
 use Rattle.checking.proofs.first_bad.Statement.{statement}
 use Rattle.checking.proofs.first_bad.Tie as tie
 

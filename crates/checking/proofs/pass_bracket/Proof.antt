@@ -1,6 +1,6 @@
 use mathlib.Core.Logic.{⊎-elim, inl, inr}
 use native.Mathlib.Omega.{arith}
-use Rattle.checking.proofs.Tests.{granted}
+use Rattle.taking.proofs.Tests.{granted}
 use Rattle.checking.proofs.Passing.{few, shallow, movable, refused, bracket-passed}
 use borrow.Author.Needs.{needs}
 use Rattle.checking.proofs.pass_bracket.Statement.{statement}

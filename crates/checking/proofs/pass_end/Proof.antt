@@ -1,5 +1,5 @@
 use native.Mathlib.Omega.{arith}
-use Rattle.checking.proofs.Tests.{granted}
+use Rattle.taking.proofs.Tests.{granted}
 use Rattle.checking.proofs.Passing.{end-movable}
 use Rattle.checking.proofs.Reading.{ended}
 use borrow.Author.Needs.{needs}

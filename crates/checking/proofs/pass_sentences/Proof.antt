@@ -3,10 +3,9 @@ use mathlib.Core.Path.{_≡_, refl, _∙_}
 use native.Mathlib.Omega.{arith}
 use lib.ListN.{length}
 use borrow.Author.Needs.{needs}
-use Rattle.checking.specs.Standing.{Onward}
-use Rattle.checking.proofs.Tests.{told}
+use Rattle.checking.specs.Passing.{Onward}
+use Rattle.taking.proofs.Tests.{told}
 use Rattle.checking.proofs.Reading.{here, ready}
-use borrow.Author.Needs.{needs}
 use Rattle.checking.proofs.pass_sentences.Statement.{statement}
 use Rattle.checking.proofs.pass_sentences.Tie as tie
 

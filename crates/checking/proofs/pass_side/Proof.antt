@@ -5,10 +5,9 @@ use Prim.Native.Nat.{_-_, _≤_}
 use native.Mathlib.Omega.{arith}
 use lib.ListN.{length}
 use borrow.Author.Needs.{needs}
-use Rattle.checking.specs.Standing.{Onward}
-use Rattle.checking.proofs.Tests.{span-le}
-use borrow.Author.Needs.{needs}
+use Rattle.checking.specs.Passing.{Onward}
 use Rattle.checking.proofs.pass_side.Statement.{statement}
+use Rattle.meaning.proofs.Truth.{span-le}
 use Rattle.checking.proofs.pass_side.Tie as tie
 
 abbrev Inv-loop : tie.InvT-loop

@@ -1,0 +1,5 @@
+pub mod Parts
+pub mod Opens
+pub mod Tests
+pub mod Variables
+pub mod Stepping
