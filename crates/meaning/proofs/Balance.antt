@@ -193,7 +193,7 @@ step-over : (e : Element) (X : List Element) → isKind 7 e ≡ false → (holds
 unfolding holds before
 step-over e X n f h = rw (n, before) (rw (f (rw n at h)) (or-right (isKind 6 e)))
 
-at-call : (e : Element) (X : List Element) → kind e ≡ 6 → holds 6 (before 7 (e ∷ X)) ≡ true
+pub at-call : (e : Element) (X : List Element) → kind e ≡ 6 → holds 6 (before 7 (e ∷ X)) ≡ true
 unfolding holds before
 at-call e X z = rw (not-kind e 6 7 z refl, before) (rw z)
 

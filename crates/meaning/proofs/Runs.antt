@@ -1,6 +1,7 @@
 -- The run: the field that it leaves is the one reached by exactly the answered number of steps, and no other answer is possible.
 use mathlib.Core.Path.{_≡_, refl, sym, _∙_, ap}
 use mathlib.Core.Bool.{Bool, true, false, _&&_, _||_, not}
+use mathlib.Core.Logic.{_↔_}
 use mathlib.Core.Option.{some}
 use mathlib.Core.List.{List, [], _∷_}
 use Prim.Native.Nat.{ℕ, zero, suc, _+_, _-_}
@@ -13,7 +14,7 @@ use Rattle.meaning.specs.Goodness.{opensAfter}
 use Rattle.meaning.specs.Machine.{before, holds, innermost, Lead, nothing, lead, shift, leading, Step, idle, stuck, onward, stepAt, step, result, run}
 use Rattle.meaning.proofs.Words.{Reaches, stay, go, Ends, done, paused, stopped}
 use Rattle.meaning.proofs.Truth.{never, is-true, is-false, see, and-left, or-left, or-right, or-false}
-use Rattle.meaning.proofs.Leading.{leading-nil, leading-here, leading-there, unshift, lacks-before}
+use Rattle.meaning.proofs.Leading.{leading-nil, leading-here, leading-there, unshift, shift-lead, lacks-before}
 use Rattle.meaning.proofs.Balance.{brackets, shuts, brackets-yes, brackets-no, brackets-nil, brackets-4, brackets-5, brackets-5-bad, passes, b4, b5, b6, b7, b0, brace}
 use Rattle.meaning.proofs.Programs.{Functions}
 use Rattle.meaning.proofs.Steps.{Good, step-good, step-is, idle-nothing}
@@ -78,11 +79,6 @@ comes (e ∷ X) o h a n =
           ])
     ]
 
-shift-lead : (e : Element) (l : Lead) → (l ≡ nothing → ⊥) → shift e l ≡ nothing → ⊥
-unfolding shift
-shift-lead e nothing f h = f refl
-shift-lead e (lead a c x b) f h = never (cc)
-
 -- brackets after one element, whatever it is
 after-one : (o : List ℕ) (e : Element) (X : List Element) → brackets o (e ∷ X) ≡ some [] → (o′ : List ℕ) × (brackets o′ X ≡ some []) × (kind e ≡ 6 → has 6 o′ ≡ true)
 unfolding has opensAfter
@@ -108,6 +104,12 @@ some-leading (e ∷ X) o h k n =
                 never (let q : not (holds 6 (before 7 X)) ≡ false = rw (i, c) at z in cc (lacks-before 6 7 X w))
           ]
     ]
+
+pub leading-call : (X : List Element) → brackets [] X ≡ some [] → (leading X ≡ nothing) ↔ (holds 6 X ≡ false)
+leading-call X b = (λ n. elim (see (holds 6 X)) [ is-true h ↦ absurd (some-leading X [] b h n) | is-false h ↦ h ], none)
+  where
+    none : holds 6 X ≡ false → leading X ≡ nothing
+    none h = elim (seeL (leading X)) [ is-nothing n ↦ n | is-lead a c x b′ l ↦ never (cc (leading-holds X l)) ]
 
 pub step-holds : (fs : List Element) (room : ℕ) (es : List Element) → (step fs room es ≡ idle → ⊥) → holds 6 es ≡ true
 unfolding step stepAt
