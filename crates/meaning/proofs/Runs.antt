@@ -11,7 +11,7 @@ use lib.Dec.{eqb}
 use borrow.Author.Tests.{eqb-true, eqb-false}
 use Rattle.meaning.specs.Elements.{Element, kind, isKind}
 use Rattle.meaning.specs.Goodness.{opensAfter}
-use Rattle.meaning.specs.Machine.{before, holds, innermost, Lead, nothing, lead, shift, leading, Step, idle, stuck, onward, stepAt, step, result, run}
+use Rattle.meaning.specs.Machine.{before, holds, innermost, Lead, nothing, lead, leading, Step, idle, stuck, onward, stepAt, step, result, run}
 use Rattle.meaning.proofs.Words.{Reaches, stay, go, Ends, done, paused, stopped}
 use Rattle.meaning.proofs.Truth.{never, is-true, is-false, see, and-left, or-left, or-right, or-false}
 use Rattle.meaning.proofs.Leading.{leading-nil, leading-here, leading-there, unshift, shift-lead, lacks-before}

@@ -1,19 +1,19 @@
 -- What a step does; and a step of a good program on a good field leaves a good field.
-use mathlib.Core.Path.{_≡_, refl, sym, _∙_, ap, subst}
-use mathlib.Core.Bool.{true, false, _&&_, not}
+use mathlib.Core.Path.{_≡_, refl, sym, _∙_, ap}
+use mathlib.Core.Bool.{true}
 use mathlib.Core.Logic.{inl, inr}
 use mathlib.Core.Option.{Option, none, some}
 use mathlib.Core.List.{List, [], _∷_, _++_, append-assoc, append-nil, tail, List·Memᴰ, List·Memᴰ·not-nil, List·Memᴰ·cases-cons}
 use Prim.Native.Nat.{ℕ, _≤_}
 use native.Mathlib.Omega.{arith}
 use lib.Dec.{leb}
-use borrow.Author.Tests.{eqb-true, leb-true, leb-false, le-leb, lt-leb, ne-eqb}
-use Rattle.meaning.specs.Elements.{Element, kind, isKind, same, among, size, join, cut, elements}
+use borrow.Author.Tests.{leb-true, leb-false, le-leb, lt-leb, ne-eqb}
+use Rattle.meaning.specs.Elements.{Element, kind, same, among, size, join, cut, elements}
 use Rattle.meaning.specs.Goodness.{badField, at, span}
 use Rattle.meaning.specs.Matching.{Assignment, plain, role, put, Env, free, seek, given}
-use Rattle.meaning.specs.Machine.{before, behind, holds, innermost, Lead, nothing, lead, leading, Step, idle, stuck, onward, fitIn, replace, call, stepAt, step, apply, function, pieces}
+use Rattle.meaning.specs.Machine.{before, behind, Lead, nothing, lead, leading, Step, idle, stuck, onward, fitIn, replace, call, stepAt, step, apply, function, pieces}
 use Rattle.meaning.proofs.Words.{Innermost, Leads, Tried, none-left, not-this, this-one, StepIs, no-call, no-function, no-match, no-room, goes}
-use Rattle.meaning.proofs.Truth.{never, is-true, is-false, see, is-none, is-some, seeO, and-left, and-right, not-true, same-eq}
+use Rattle.meaning.proofs.Truth.{never, is-true, is-false, see, is-none, is-some, seeO, and-left, and-right, same-eq}
 use Rattle.meaning.proofs.Cutting.{cut-join}
 use Rattle.meaning.proofs.Searching.{Sure, Result, seek-sound, fit-put, given-plain, given-itself, found, lost, only-one}
 use Rattle.meaning.proofs.Leading.{leading-leads, leading-none}
