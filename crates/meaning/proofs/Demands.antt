@@ -17,10 +17,9 @@ use Rattle.meaning.specs.Desk.{freshDesk, noted, deskCalls}
 use Rattle.meaning.proofs.Words.{Innermost, Leads, NoneLeads, Tried, StepIs, zeros, Accepted, Lawful, bad-sizes, bad-program, bad-field, ran, LeftAs, leaves, ListedIn}
 use Rattle.meaning.proofs.Truth.{never, is-none, is-some, seeO}
 use Rattle.meaning.proofs.Searching.{found, lost, only-one}
-use Rattle.meaning.proofs.Leading.{leading-leads, leading-none, leading-balanced}
+use Rattle.meaning.proofs.Leading.{leading-leads, leading-none, leading-balanced, leading-call}
 use Rattle.meaning.proofs.Programs.{program-functions}
 use Rattle.meaning.proofs.Steps.{tried, tried-only, step-is, only-step, function-sentences, step-good, field-is-good, good-accepted}
-use Rattle.meaning.proofs.Runs.{leading-call}
 use Rattle.meaning.proofs.Answers.{lawful, only-lawful, ends-code, ends-room}
 use Rattle.meaning.proofs.Around.{spent, stops}
 use Rattle.meaning.proofs.Calls.{desk-law}

@@ -17,7 +17,6 @@ use Rattle.meaning.proofs.Truth.{never, is-true, is-false, see, is-none
 use Rattle.meaning.proofs.Cutting.{cut-join}
 use Rattle.meaning.proofs.Searching.{Sure, Result, seek-sound, fit-put, given-plain, given-itself, found, lost, only-one}
 use Rattle.meaning.proofs.Leading.{leading-leads, leading-none}
-pub use Rattle.meaning.proofs.Leading.{leading-parts}
 use Rattle.meaning.proofs.Balance.{brackets, brackets-append, brackets-6, then, fours, inner, put-keeps, balanced-middle}
 use Rattle.meaning.proofs.Programs.{fieldElement, Solid, s-none, s-more, solid-append, solid-split, good-solid, good-balanced, field-good, solid-whole, RightSide, r-none, r-fixed, r-variable, Sentence, Sentences, t-none, t-more, Functions, f-none, f-more}
 
