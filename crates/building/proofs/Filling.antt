@@ -12,8 +12,7 @@ use lib.Dec.{eqb, leb}
 use borrow.Author.Tests.{eqb-true, ne-eqb, le-leb, lt-leb}
 use Rattle.meaning.specs.Elements.{Element, size, isVariable}
 use Rattle.meaning.proofs.Truth.{never, Seen, is-true, is-false, see}
-use Rattle.meaning.proofs.Cutting.{Whole}
-use Rattle.meaning.proofs.Leading.{size-append}
+use Rattle.meaning.proofs.Cutting.{Whole, size-append}
 use Rattle.scanning.specs.State.{isCall}
 use Rattle.scanning.proofs.Marks.{size-nil, size-cons}
 use Rattle.building.specs.Build.{sideOf, piece, pour, Ready, spanOf, spans, callsOf, placed, Pivot, at-end, at-variable, Measured}

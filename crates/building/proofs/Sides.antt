@@ -12,8 +12,7 @@ use lib.Dec.{leb, eqb}
 use borrow.Author.Tests.{le-leb, lt-leb, leb-true, eqb-true, eqb-false}
 use Rattle.meaning.specs.Elements.{Element, kind, body, cut, join, size, isVariable}
 use Rattle.meaning.proofs.Truth.{and-false, and-left, and-right, is-true, is-false, see, never}
-use Rattle.meaning.proofs.Cutting.{Whole, w-none, w-more, cut-at, join-cut}
-use Rattle.meaning.proofs.Leading.{join-append, size-append}
+use Rattle.meaning.proofs.Cutting.{Whole, w-none, w-more, cut-at, join-cut, join-append, size-append}
 use Rattle.kinds.specs.Slots.{slotOf, valueOf}
 use Rattle.scanning.proofs.Marks.{whole-left, whole-right, join-whole}
 use Rattle.building.specs.Build.{sideOf, piece, Held, Ready, ready-none, ready-more, Known}

@@ -15,7 +15,7 @@ use Rattle.meaning.specs.Machine.{before, behind, holds, pieces, onto, apply}
 use Rattle.meaning.proofs.Truth.{never, is-true, is-false, see, or-false}
 use Rattle.meaning.proofs.Cutting.{Whole}
 use Rattle.meaning.proofs.Searching.{given-itself}
-use Rattle.meaning.proofs.Leading.{holds-append, before-none}
+use Rattle.meaning.proofs.Holding.{holds-append, before-none}
 use Rattle.meaning.proofs.Programs.{before-here, behind-here, behind-on, pieces-end, pieces-on}
 use Rattle.matching.specs.Binding.{LeftSide, Matched, no-fit, first-fit}
 use Rattle.building.specs.Build.{sideOf, pour, Ready}

@@ -13,8 +13,8 @@ use Rattle.meaning.specs.Elements.{Element, kind, elements, join, size, same, a
 use Rattle.meaning.specs.Matching.{Terms, stop, symbol, bracket, Role, sVar, tVar, eVar, plain, role, Stands, put, Env, given}
 use Rattle.meaning.specs.Machine.{holds}
 use Rattle.meaning.proofs.Truth.{never, and-left, and-right, T-true, is-true, is-false, see, or-right, same-eq, same-refl}
-use Rattle.meaning.proofs.Cutting.{Whole, w-none, w-more, join-cut}
-use Rattle.meaning.proofs.Leading.{holds-append, join-append}
+use Rattle.meaning.proofs.Cutting.{Whole, w-none, w-more, join-cut, join-append}
+use Rattle.meaning.proofs.Holding.{holds-append}
 use Rattle.matching.specs.Binding.{LeftSide, l-end, l-symbol, l-open, l-close, l-variable, Variable, Bound}
 use Rattle.matching.proofs.Sides.{proper-whole}
 use Rattle.kinds.specs.Slots.{slotOf, valueOf}

@@ -11,8 +11,7 @@ use Rattle.meaning.specs.Elements.{kind, body, cut, elements, join, isSymbol}
 use Rattle.meaning.specs.Goodness.{span}
 use Rattle.meaning.specs.Matching.{Terms, symbol, bracket}
 use Rattle.meaning.proofs.Truth.{never, and-left, and-right, T-true, is-true, is-false, see}
-use Rattle.meaning.proofs.Cutting.{cut-at, join-cut}
-use Rattle.meaning.proofs.Leading.{join-append}
+use Rattle.meaning.proofs.Cutting.{cut-at, join-cut, join-append}
 use Rattle.elements.specs.declared.Element.{Element}
 use Rattle.elements.specs.declared.Reading.the-variants.{Got, Unknown, Cut, End}
 use Rattle.elements.specs.declared.Found.the-variants.{Nothing}

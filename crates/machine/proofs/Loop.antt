@@ -12,7 +12,7 @@ use Rattle.meaning.specs.Elements.{join, size, isKind}
 use Rattle.meaning.specs.Machine.{holds, stuck, onward, step, Result, run, closing, answer}
 use Rattle.meaning.proofs.Truth.{or-right}
 use Rattle.meaning.proofs.Cutting.{join-cut}
-use Rattle.meaning.proofs.Leading.{holds-append}
+use Rattle.meaning.proofs.Holding.{holds-append}
 use Rattle.meaning.proofs.Programs.{Functions, Solid, solid-whole}
 use Rattle.meaning.proofs.Balance.{brackets}
 use Rattle.meaning.proofs.Words.{StepIs}

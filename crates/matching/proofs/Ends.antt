@@ -13,8 +13,7 @@ use Rattle.meaning.specs.Elements.{kind, body, elements, join, isVariable}
 use Rattle.meaning.specs.Goodness.{span}
 use Rattle.meaning.specs.Matching.{sVar, tVar, eVar, plain, role, exact, fresh, known}
 use Rattle.meaning.proofs.Truth.{never, is-true, is-false, see}
-use Rattle.meaning.proofs.Cutting.{cut-join, join-cut}
-use Rattle.meaning.proofs.Leading.{join-append}
+use Rattle.meaning.proofs.Cutting.{cut-join, join-cut, join-append}
 use Rattle.meaning.proofs.Searching.{exact-here, exact-each, fresh-each, second-term}
 use Rattle.meaning.proofs.Trying.{no-way, symbol-way}
 use Rattle.kinds.specs.Slots.{slotOf, within, valueOf}

@@ -13,8 +13,7 @@ use borrow.Author.Tests.{leb-true, leb-false, eqb-true, eqb-false}
 use Rattle.meaning.specs.Elements.{kind, body, elements, join, same, isSymbol, isVariable}
 use Rattle.meaning.specs.Matching.{stop as no-terms, symbol, sVar, role, Way, Env, bind, keep, known, firstOf, seek}
 use Rattle.meaning.proofs.Truth.{never, is-true, is-false, see, is-none, is-some, seeO, same-eq, same-refl}
-use Rattle.meaning.proofs.Cutting.{join-cut, body-le}
-use Rattle.meaning.proofs.Leading.{join-append}
+use Rattle.meaning.proofs.Cutting.{join-cut, body-le, join-append}
 use Rattle.meaning.proofs.Searching.{Good, Sure, Each, none-left, one-more, known-each}
 use Rattle.kinds.specs.Slots.{slotOf, within, valueOf}
 use Rattle.elements.specs.Reading.{Splits, Proper, more, Balanced, ProperAt, Level, term-at, Characters, no-more, one-more as character-more}

@@ -10,12 +10,13 @@ use Rattle.meaning.specs.Elements.{Element, elements, join, size}
 use Rattle.meaning.specs.Machine.{holds, leading, idle, step, stepAt, answer, machine}
 use Rattle.meaning.proofs.Words.{Reaches, stay, go, Ends, done, paused, stopped, zeros, Accepted, leaves}
 use Rattle.meaning.proofs.Truth.{never, is-true, is-false, see}
-use Rattle.meaning.proofs.Cutting.{join-cut}
-use Rattle.meaning.proofs.Leading.{moved, wide, step-moved, leading-closed, join-append}
+use Rattle.meaning.proofs.Cutting.{join-cut, join-append}
+use Rattle.meaning.proofs.Moved.{moved, wide, step-moved}
+use Rattle.meaning.proofs.Leading.{leading-closed, is-nothing, is-lead, seeL}
 use Rattle.meaning.proofs.Balance.{fours, call-first}
 use Rattle.meaning.proofs.Programs.{Functions, program-functions}
 use Rattle.meaning.proofs.Steps.{Good, field-is-good, good-cut, step-good}
-use Rattle.meaning.proofs.Runs.{is-nothing, is-lead, seeL, reaches-good}
+use Rattle.meaning.proofs.Runs.{reaches-good}
 use Rattle.meaning.proofs.Answers.{machine-ends, accepted-ends, ends-reaches, size-elements}
 
 module _ (fs : List Element) (room : ℕ) (A B : List Element) (ok : Functions fs) (no> : holds 7 A ≡ false) where

@@ -3,7 +3,7 @@ use mathlib.Core.Path.{_≡_, refl, sym, _∙_}
 use mathlib.Core.Bool.{Bool, true, false, _&&_, _||_}
 use mathlib.Core.Option.{Option, none, some}
 use mathlib.Core.List.{List, [], _∷_, _++_, append-assoc}
-use Prim.Native.Nat.{ℕ, zero, suc, _+_, _≤_, _<_}
+use Prim.Native.Nat.{ℕ, zero, suc, _≤_, _<_}
 use native.Mathlib.Omega.{arith}
 use lib.Dec.{T, eqb, leb}
 use borrow.Author.Tests.{leb-true, eqb-true, eqb-false, ne-eqb}
@@ -193,7 +193,7 @@ step-over : (e : Element) (X : List Element) → isKind 7 e ≡ false → (holds
 unfolding holds before
 step-over e X n f h = rw (n, before) (rw (f (rw n at h)) (or-right (isKind 6 e)))
 
-at-call : (e : Element) (X : List Element) → kind e ≡ 6 → holds 6 (before 7 (e ∷ X)) ≡ true
+pub at-call : (e : Element) (X : List Element) → kind e ≡ 6 → holds 6 (before 7 (e ∷ X)) ≡ true
 unfolding holds before
 at-call e X z = rw (not-kind e 6 7 z refl, before) (rw z)
 

@@ -1,5 +1,5 @@
 -- Cutting bytes into elements and joining them again.
-use mathlib.Core.Path.{_≡_, refl, _∙_, ap}
+use mathlib.Core.Path.{_≡_, refl, sym, _∙_, ap}
 use mathlib.Core.Bool.{Bool, true, false, false≢true}
 use lib.Dec.{leb}
 use borrow.Author.Tests.{leb-true}
@@ -7,10 +7,10 @@ use Rattle.meaning.proofs.Truth.{Seen, is-true, is-false, see}
 use mathlib.Core.List.{List, [], _∷_, _++_, append-assoc}
 use Prim.Native.Nat.{ℕ, zero, suc, _+_, _≤_, _<_}
 use native.Mathlib.Omega.{arith}
-use lib.ListN.{length, getD, take, drop, take-append-drop}
+use lib.ListN.{length, getD, take, drop, take-append-drop, length-append}
 use native.Mathlib.Numerals.{add-one}
 use lib.Seq.{take-at, drop-at, drop-cons, drop-drop}
-use Rattle.meaning.specs.Elements.{Element, body, bodies, cut, join}
+use Rattle.meaning.specs.Elements.{Element, body, bodies, cut, join, size}
 
 pub cut-skip : (n : ℕ) (bs : List ℕ) → cut n bs ≡ cut 0 (drop n bs)
 unfolding cut
@@ -34,6 +34,15 @@ join-cut-from (suc n) (b ∷ bs) = join-cut-from n bs
 
 pub join-cut : (bs : List ℕ) → join (cut 0 bs) ≡ bs
 join-cut bs = join-cut-from 0 bs
+
+pub join-append : (xs ys : List Element) → join (xs ++ ys) ≡ join xs ++ join ys
+unfolding join
+join-append [] ys = refl
+join-append (x ∷ xs) ys = rw (join-append xs ys) (sym (append-assoc x (join xs) (join ys)))
+
+pub size-append : (xs ys : List Element) → size (xs ++ ys) ≡ size xs + size ys
+unfolding size
+size-append xs ys = ap length (join-append xs ys) ∙ length-append (join xs) (join ys)
 
 -- each element has its whole body
 pub data Whole : List Element → Type 0 where

@@ -1,22 +1,25 @@
 -- The three demands, in the user's words, and what the machine's worth rests on besides. The words are those of specs/ and of Words.
-use mathlib.Core.Path.{_≡_, refl, _∙_, ap}
+use mathlib.Core.Path.{_≡_, refl}
 use mathlib.Core.Bool.{true, false, cond}
+use mathlib.Core.Logic.{_↔_}
 use mathlib.Core.Option.{Option, none, some}
-use mathlib.Core.List.{List, [], _∷_, _++_}
+use mathlib.Core.List.{List, _++_, List·Memᴰ}
 use Prim.Native.Nat.{ℕ, _+_, _-_, _≤_}
 use native.Mathlib.Omega.{arith}
 use lib.ListN.{length, take, length-append, length-replicate}
+use lib.Seq.{take-at}
 use lib.Dec.{T}
 use Rattle.meaning.specs.Elements.{Element, elements, join, size}
 use Rattle.meaning.specs.Goodness.{badProgram, badField}
-use Rattle.meaning.specs.Matching.{free, seek, given}
-use Rattle.meaning.specs.Machine.{before, holds, function, apply, Step, onward, step, Answer, answer, sizes, machine}
+use Rattle.meaning.specs.Matching.{Assignment, Fits, First, Env, free, seek, given}
+use Rattle.meaning.specs.Machine.{holds, nothing, lead, leading, function, apply, Step, onward, step, Answer, answer, sizes, machine}
 use Rattle.meaning.specs.Desk.{freshDesk, noted, deskCalls}
-use Rattle.meaning.proofs.Words.{Tried, none-left, not-this, this-one, StepIs, zeros, Accepted, Lawful, bad-sizes, bad-program, bad-field, ran, leaves, ListedIn}
-use Rattle.meaning.proofs.Truth.{is-none, is-some, seeO}
-use Rattle.meaning.proofs.Searching.{found, lost, only-one, given-itself}
-use Rattle.meaning.proofs.Programs.{program-functions, Sentences, t-none, t-more}
-use Rattle.meaning.proofs.Steps.{step-is, only-step, function-sentences, step-good, field-is-good, good-accepted, same-right}
+use Rattle.meaning.proofs.Words.{Innermost, Leads, NoneLeads, Tried, StepIs, zeros, Accepted, Lawful, bad-sizes, bad-program, bad-field, ran, LeftAs, leaves, ListedIn}
+use Rattle.meaning.proofs.Truth.{never, is-none, is-some, seeO}
+use Rattle.meaning.proofs.Searching.{found, lost, only-one}
+use Rattle.meaning.proofs.Leading.{leading-leads, leading-none, leading-balanced, leading-call}
+use Rattle.meaning.proofs.Programs.{program-functions}
+use Rattle.meaning.proofs.Steps.{tried, tried-only, step-is, only-step, function-sentences, step-good, field-is-good, good-accepted}
 use Rattle.meaning.proofs.Answers.{lawful, only-lawful, ends-code, ends-room}
 use Rattle.meaning.proofs.Around.{spent, stops}
 use Rattle.meaning.proofs.Calls.{desk-law}
@@ -50,42 +53,54 @@ demand-1-only p f used s budget l = only-lawful p f used s budget l
 -- DEMAND 2. "Each step is the step of Turchin's Refal-5 manual. A left side fails exactly if no assignment to its variables makes it equal the
 -- argument. Otherwise the assignment used is the one whose leftmost e-variable is shortest, then the next, and so on."
 
+-- a left side fails exactly if no assignment fits
+pub demand-2-fails : (side arg : List Element) → (seek side arg free ≡ none) ↔ ((a : Assignment) → Fits a side arg → ⊥)
+demand-2-fails side arg = (lost side arg, none-found)
+  where
+    none-found : ((a : Assignment) → Fits a side arg → ⊥) → seek side arg free ≡ none
+    none-found f = elim (seeO (seek side arg free)) [ is-none h ↦ h | is-some env h ↦ absurd (f (given env) (found side arg env h .fits)) ]
+
+-- otherwise the one used is first
+pub demand-2-first : (side arg : List Element) (env : Env) → seek side arg free ≡ some env → First (given env) side arg
+demand-2-first = found
+
+-- "At most one assignment is first": it fixes the value of every variable of the left side
+pub demand-2-one : (a b : Assignment) (side arg : List Element) → First a side arg → First b side arg → (p : Element) → List·Memᴰ p side → a p ≡ b p
+demand-2-one = only-one
+
+-- "Its function's sentences are tried in order. The first that fits replaces the whole term by its right side with values put in"
 pub demand-2-tried : (x : List Element) (ss : List (List Element)) → Tried x ss (apply ss x)
-unfolding apply
-demand-2-tried x [] = none-left
-demand-2-tried x (s ∷ ss) =
-    elim (seeO (seek (before 11 s) x free)) [
-      | is-none h ↦ rw (h, apply) (not-this (lost (before 11 s) x h) (demand-2-tried x ss))
-      | is-some env h ↦ rw (h, apply) (this-one (given env) (found (before 11 s) x env h) (given-itself (before 11 s) x env h) refl)
-    ]
+demand-2-tried = tried
 
-one-right : (x : List Element) {ss : List (List Element)} {o : Option (List Element)} → Sentences [] ss → Tried x ss o → o ≡ apply ss x
-unfolding apply
-one-right x t-none none-left = refl
-one-right x (t-more {s} i t) (not-this f k) =
-    elim (seeO (seek (before 11 s) x free)) [
-      | is-none h ↦ rw (h, apply) (one-right x t k)
-      | is-some env h ↦ absurd (f (given env) (found (before 11 s) x env h .fits))
-    ]
-one-right x (t-more {s} i t) (this-one a f p e) =
-    elim (seeO (seek (before 11 s) x free)) [
-      | is-none h ↦ absurd (lost (before 11 s) x h a (f .fits))
-      | is-some env h ↦
-          rw (h, apply) (e ∙ ap some (same-right a (given env) p (given-itself (before 11 s) x env h)
-          (only-one a (given env) (before 11 s) x f (found (before 11 s) x env h)) (i .known)))
-    ]
-
--- no other right side comes of a function of a good program
+-- and no other right side comes of it, if the program is good
 pub demand-2-only : (p name : List ℕ) (x : List Element) {ss : List (List Element)} {o : Option (List Element)} → badProgram p ≡ none
-    → function name (elements p) ≡ some ss → Tried x ss o → o ≡ apply ss x
-demand-2-only p name x h f t = one-right x (function-sentences name (program-functions p h) f) t
+    → function name (elements p) ≡ some ss → Tried x ss o → apply ss x ≡ o
+demand-2-only p name x h f t = tried-only x (function-sentences name (program-functions p h) f) t
 
--- the step by its cases: the leading term, its function, the sentences tried, room for the new field; and no other step
+-- "The leading term is the leftmost < ... > that holds no other <"
+pub demand-2-leading : (es a : List Element) (c : Element) (x b : List Element) → (leading es ≡ lead a c x b) ↔ Leads es a c x b
+demand-2-leading = leading-leads
+
+pub demand-2-none-leads : (es : List Element) → (leading es ≡ nothing) ↔ NoneLeads es
+demand-2-none-leads = leading-none
+
+module _ (f : List ℕ) (good : badField f ≡ none) where
+  -- in a good field it is the < ... > with no < and no > in it and no > before it
+  pub demand-2-leading-good : (a : List Element) (c : Element) (x b : List Element)
+      → (leading (elements f) ≡ lead a c x b) ↔ (Innermost (elements f) a c x b × (holds 7 a ≡ false))
+  demand-2-leading-good a c x b = leading-balanced (elements f) a c x b (field-is-good f good .balanced)
+
+  -- and there is none exactly if there is no <
+  pub demand-2-no-call : (leading (elements f) ≡ nothing) ↔ (holds 6 (elements f) ≡ false)
+  demand-2-no-call = leading-call (elements f) (field-is-good f good .balanced)
+
+-- the step by its cases: the leading term, its function, the sentences tried, room for the new field
 pub demand-2 : (program : List Element) (room : ℕ) (es : List Element) → StepIs program room es (step program room es)
-demand-2 program room es = step-is program room es
+demand-2 = step-is
 
-pub demand-2-step-only : (program : List Element) (room : ℕ) (es : List Element) {s : Step} → StepIs program room es s → step program room es ≡ s
-demand-2-step-only program room es i = only-step i
+-- and no other step, if the program is good: in a bad one a right-side variable may be "absent from the left", which leaves its value open
+pub demand-2-step-only : (p : List ℕ) (room : ℕ) (es : List Element) {s : Step} → badProgram p ≡ none → StepIs (elements p) room es s → step (elements p) room es ≡ s
+demand-2-step-only p room es h i = only-step (program-functions p h) i
 
 -- DEMAND 3. "A view expands the same inside another as it does alone."
 
@@ -95,28 +110,51 @@ module _ (p A X B fX sX f s : List ℕ)
     (between : elements (A ++ (X ++ B)) ≡ elements A ++ (elements X ++ elements B))
     (no-end : holds 7 (elements A) ≡ false)
     -- "both runs have the same program and sizes in order"
-    (program : badProgram p ≡ none)
     (sized : sizes p f (length (A ++ (X ++ B))) s ≡ true) (sizedX : sizes p fX (length X) sX ≡ true)
     -- "X alone, in a buffer shorter by the lengths of A and B"
     (holds-all : take (length (A ++ (X ++ B))) f ≡ A ++ (X ++ B)) (holds-X : take (length X) fX ≡ X)
     (shorter : length f ≡ length A + length fX + length B)
     -- "If X alone ... is left as X' after n steps": X′ is `take v g`
     (budget c n v place : ℕ) (g t : List ℕ) (alone : machine p fX (length X) sX budget ≡ answer c n v place g t) where
-  aloneX : Accepted p fX (length X) sX X
-  aloneX = record { fit = sizedX; program = program; is = holds-X; good = goodX }
+  module _ (program : badProgram p ≡ none) where
+    aloneX : Accepted p fX (length X) sX X
+    aloneX = record { fit = sizedX; program = program; is = holds-X; good = goodX }
 
-  inside : Accepted p f (length (A ++ (X ++ B))) s (A ++ (X ++ B))
-  inside = record { fit = sized; program = program; is = holds-all; good = good }
+    inside : Accepted p f (length (A ++ (X ++ B))) s (A ++ (X ++ B))
+    inside = record { fit = sized; program = program; is = holds-all; good = good }
+
+    -- a good program: the code, and every byte
+    pub demand-3-good : machine p f (length (A ++ (X ++ B))) s n
+        ≡ leaves A (take v g) B (length f) (length s) (cond (holds 6 (elements (A ++ (take v g ++ B)))) 1 0) n 0
+    demand-3-good = spent p A X B fX sX f s aloneX inside shorter between no-end budget c n v place g t alone
+
+  -- a bad program: both runs end with code 6 after 0 steps, at the same place
+  pub demand-3-bad : (i : ℕ) → badProgram p ≡ some i → (k : ℕ)
+      → (machine p fX (length X) sX budget ≡ answer 6 0 (length X) i fX (zeros (length sX)))
+      × (machine p f (length (A ++ (X ++ B))) s k ≡ answer 6 0 (length (A ++ (X ++ B))) i f (zeros (length s)))
+  demand-3-bad i h k = (only-lawful p fX (length X) sX budget (bad-program sizedX h), only-lawful p f (length (A ++ (X ++ B))) s k (bad-program sized h))
 
   -- "then A X B in the full buffer, with budget n, is left as A X' B after n steps"
-  pub demand-3 : machine p f (length (A ++ (X ++ B))) s n
-      ≡ leaves A (take v g) B (length f) (length s) (cond (holds 6 (elements (A ++ (take v g ++ B)))) 1 0) n 0
-  demand-3 = spent p A X B fX sX f s aloneX inside shorter between no-end budget c n v place g t alone
+  pub demand-3 : LeftAs (A ++ (take v g ++ B)) n (machine p f (length (A ++ (X ++ B))) s n)
+  demand-3 =
+      elim (seeO (badProgram p)) [
+        | is-none h ↦ rw (demand-3-good h) (refl, refl, take-at (A ++ (take v g ++ B)) _ _ refl)
+        | is-some i h ↦
+            let (e, w) = demand-3-bad i h n in
+            let en : n ≡ 0 = cc in
+            let ev : v ≡ length X = cc in let eg : g ≡ fX = cc in
+            let ex : take v g ≡ X = rw (ev, eg) holds-X in
+            rw (w, en, ex) (refl, refl, holds-all)
+      ]
 
   -- "If X stopped for want of a sentence, a function or room, the whole given X's budget stops after the same n steps for the same cause, its place
-  -- later by A's length"
-  pub demand-3-stops : 2 ≤ c → machine p f (length (A ++ (X ++ B))) s budget ≡ leaves A (take v g) B (length f) (length s) c n (length A + place)
-  demand-3-stops l = stops p A X B fX sX f s aloneX inside shorter between no-end budget c n v place g t alone l
+  -- later by A's length": codes 2, 3 and 4
+  pub demand-3-stops : 2 ≤ c → c ≤ 4 → machine p f (length (A ++ (X ++ B))) s budget ≡ leaves A (take v g) B (length f) (length s) c n (length A + place)
+  demand-3-stops l u =
+      elim (seeO (badProgram p)) [
+        | is-none h ↦ stops p A X B fX sX f s (aloneX h) (inside h) shorter between no-end budget c n v place g t alone l
+        | is-some i h ↦ never (let e : c ≡ 6 = cc (demand-3-bad i h n .0) in omega arith)
+      ]
 
 -- BESIDES
 

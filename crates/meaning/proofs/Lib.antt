@@ -3,8 +3,10 @@ pub mod Truth
 pub mod Cutting
 pub mod Searching
 pub mod Trying
-pub mod Leading
+pub mod Holding
 pub mod Balance
+pub mod Leading
+pub mod Moved
 pub mod Programs
 pub mod Steps
 pub mod Runs

@@ -1,20 +1,15 @@
 -- The run: the field that it leaves is the one reached by exactly the answered number of steps, and no other answer is possible.
-use mathlib.Core.Path.{_≡_, refl, sym, _∙_, ap}
-use mathlib.Core.Bool.{Bool, true, false, _&&_, _||_, not}
-use mathlib.Core.Option.{some}
-use mathlib.Core.List.{List, [], _∷_}
+use mathlib.Core.Path.{_≡_, refl, _∙_, ap}
+use mathlib.Core.Bool.{true, false}
+use mathlib.Core.List.{List, []}
 use Prim.Native.Nat.{ℕ, zero, suc, _+_, _-_}
 use native.Mathlib.Omega.{arith}
 use native.Mathlib.Nat.{zero-add, add-zero, suc-add, add-suc}
-use lib.Dec.{eqb}
-use borrow.Author.Tests.{eqb-true, eqb-false}
-use Rattle.meaning.specs.Elements.{Element, kind, isKind}
-use Rattle.meaning.specs.Goodness.{opensAfter}
-use Rattle.meaning.specs.Machine.{before, holds, innermost, Lead, nothing, lead, shift, leading, Step, idle, stuck, onward, stepAt, step, result, run}
+use Rattle.meaning.specs.Elements.{Element}
+use Rattle.meaning.specs.Machine.{holds, leading, Step, idle, stuck, onward, stepAt, step, result, run}
 use Rattle.meaning.proofs.Words.{Reaches, stay, go, Ends, done, paused, stopped}
-use Rattle.meaning.proofs.Truth.{never, is-true, is-false, see, and-left, or-left, or-right, or-false}
-use Rattle.meaning.proofs.Leading.{leading-nil, leading-here, leading-there, unshift, lacks-before}
-use Rattle.meaning.proofs.Balance.{brackets, shuts, brackets-yes, brackets-no, brackets-nil, brackets-4, brackets-5, brackets-5-bad, passes, b4, b5, b6, b7, b0, brace}
+use Rattle.meaning.proofs.Truth.{never, is-true, is-false, see}
+use Rattle.meaning.proofs.Leading.{is-nothing, is-lead, seeL, leading-holds, some-leading}
 use Rattle.meaning.proofs.Programs.{Functions}
 use Rattle.meaning.proofs.Steps.{Good, step-good, step-is, idle-nothing}
 
@@ -27,87 +22,6 @@ pub seeS : (s : Step) → SeenS s
 seeS idle = is-idle refl
 seeS (stuck c place) = is-stuck c place refl
 seeS (onward es) = is-onward es refl
-
-pub data SeenL (l : Lead) : Type 0 where
-  is-nothing : l ≡ nothing → SeenL l
-  is-lead : (a : List Element) (c : Element) (x b : List Element) → l ≡ lead a c x b → SeenL l
-
-pub seeL : (l : Lead) → SeenL l
-seeL nothing = is-nothing refl
-seeL (lead a c x b) = is-lead a c x b refl
-
--- A LEADING TERM THERE IS EXACTLY WHERE THERE IS A <
-
-leading-holds : (es : List Element) {a : List Element} {c : Element} {x b : List Element} → leading es ≡ lead a c x b → holds 6 es ≡ true
-unfolding holds
-leading-holds [] h = never (cc leading-nil)
-leading-holds (e ∷ es) h =
-    elim (see (isKind 6 e && innermost es)) [
-      | is-true p ↦ rw (and-left (isKind 6 e) _ p)
-      | is-false p ↦ rw (leading-holds es (unshift e (leading es) (sym (leading-there e es p) ∙ h) .2)) (or-right (isKind 6 e))
-    ]
-
-has : ℕ → List ℕ → Bool
-has k [] = false
-has k (b ∷ o) = eqb b k || has k o
-
--- a ) closes a (
-popped : (o : List ℕ) (e : Element) (X : List Element) (q : List ℕ) → kind e ≡ 5 → brackets o (e ∷ X) ≡ some q → (o′ : List ℕ) × (o ≡ 4 ∷ o′) × (brackets o′ X ≡ some q)
-popped [] e X q k h = never (cc (brackets-5-bad [] e X k refl))
-popped (b ∷ o) e X q k h =
-    elim (see (eqb b 4)) [
-      | is-true z ↦ (let i : b ≡ 4 = eqb-true b 4 z in (o, ap {B = List ℕ} (λ x. x ∷ o) i, sym (brackets-5 o e X k) ∙ (rw i at h)))
-      | is-false z ↦ never (cc (brackets-5-bad (b ∷ o) e X k z))
-    ]
-
--- an open < and no further <: its > comes
-comes : (X : List Element) (o : List ℕ) → brackets o X ≡ some [] → has 6 o ≡ true → holds 6 X ≡ false → holds 7 X ≡ true
-unfolding has holds
-comes [] o h a n = never (cc (brackets-nil o))
-comes (e ∷ X) o h a n =
-    let m = or-false (isKind 6 e) (holds 6 X) n in
-    elim (see (isKind 7 e)) [
-      | is-true z ↦ rw z
-      | is-false z ↦
-          rw z (elim (brace (kind e)) [
-            | b4 k ↦ comes X (4 ∷ o) (sym (brackets-4 o e X k) ∙ h) a (m .1)
-            | b5 k ↦ (let (o′, i, j) = popped o e X [] k h in comes X o′ j (rw i at a) (m .1))
-            | b6 k ↦ absurd (eqb-false (kind e) 6 (m .0) k)
-            | b7 k ↦ absurd (eqb-false (kind e) 7 z k)
-            | b0 k ↦ comes X o (sym (passes o e X k) ∙ h) a (m .1)
-          ])
-    ]
-
-shift-lead : (e : Element) (l : Lead) → (l ≡ nothing → ⊥) → shift e l ≡ nothing → ⊥
-unfolding shift
-shift-lead e nothing f h = f refl
-shift-lead e (lead a c x b) f h = never (cc)
-
--- brackets after one element, whatever it is
-after-one : (o : List ℕ) (e : Element) (X : List Element) → brackets o (e ∷ X) ≡ some [] → (o′ : List ℕ) × (brackets o′ X ≡ some []) × (kind e ≡ 6 → has 6 o′ ≡ true)
-unfolding has opensAfter
-after-one o e X h =
-    elim (see (shuts o (kind e))) [
-      | is-true z ↦ (opensAfter (kind e) o, sym (brackets-yes o e X z) ∙ h, λ k. rw k)
-      | is-false z ↦ never (cc (brackets-no o e X z))
-    ]
-
-pub some-leading : (X : List Element) (o : List ℕ) → brackets o X ≡ some [] → holds 6 X ≡ true → leading X ≡ nothing → ⊥
-unfolding holds innermost
-some-leading [] o h k n = never (cc)
-some-leading (e ∷ X) o h k n =
-    let (o′, j, six) = after-one o e X h in
-    elim (see (isKind 6 e && innermost X)) [
-      | is-true z ↦ never (cc (leading-here e X z))
-      | is-false z ↦
-          elim (see (holds 6 X)) [
-            | is-true w ↦ shift-lead e (leading X) (some-leading X o′ j w) (sym (leading-there e X z) ∙ n)
-            | is-false w ↦
-                let i : isKind 6 e ≡ true = or-left (isKind 6 e) (rw w at k) in
-                let c : holds 7 X ≡ true = comes X o′ j (six (eqb-true (kind e) 6 i)) w in
-                never (let q : not (holds 6 (before 7 X)) ≡ false = rw (i, c) at z in cc (lacks-before 6 7 X w))
-          ]
-    ]
 
 pub step-holds : (fs : List Element) (room : ℕ) (es : List Element) → (step fs room es ≡ idle → ⊥) → holds 6 es ≡ true
 unfolding step stepAt

@@ -1,14 +1,33 @@
--- The words in which Demands speaks, beside those of specs/: a step by its cases, steps in a row, the end of a run, the table of the answers.
+-- The words in which Demands speaks, beside those of specs/: the leading term, a step by its cases, steps in a row, the end of a run, the table of the
+-- answers.
 use mathlib.Core.Path.{_≡_}
 use mathlib.Core.Bool.{true, false}
 use mathlib.Core.Option.{Option, none, some}
 use mathlib.Core.List.{List, [], _∷_, _++_, tail}
 use Prim.Native.Nat.{ℕ, suc, _-_, _≤_, _<_}
 use lib.ListN.{length, take, replicate}
-use Rattle.meaning.specs.Elements.{Element, elements, join, size}
+use Rattle.meaning.specs.Elements.{Element, kind, elements, join, size}
 use Rattle.meaning.specs.Goodness.{badProgram, badField}
 use Rattle.meaning.specs.Matching.{plain, role, Assignment, put, Fits, First}
-use Rattle.meaning.specs.Machine.{before, behind, holds, nothing, lead, leading, function, apply, Step, idle, stuck, onward, step, Answer, answer, sizes}
+use Rattle.meaning.specs.Machine.{before, behind, holds, function, Step, idle, stuck, onward, step, Answer, answer, sizes}
+
+-- a "< ... > that holds no other <": the field es is a, the < c, x, its >, b; as x holds no <, its > is the first behind it
+pub record Innermost (es a : List Element) (c : Element) (x b : List Element) : Type 0 where
+  pub last : Element
+  pub split : es ≡ a ++ (c ∷ (x ++ (last ∷ b)))
+  pub first-6 : kind c ≡ 6
+  pub last-7 : kind last ≡ 7
+  pub no-6 : holds 6 x ≡ false
+  pub no-7 : holds 7 x ≡ false
+
+-- "The leading term is the leftmost < ... > that holds no other <": none of these has less before it
+pub record Leads (es a : List Element) (c : Element) (x b : List Element) : Type 0 where
+  pub term : Innermost es a c x b
+  pub leftmost : {a′ : List Element} {c′ : Element} {x′ b′ : List Element} → Innermost es a′ c′ x′ b′ → length a ≤ length a′
+
+-- there is none
+abbrev pub NoneLeads : List Element → Type 0
+NoneLeads es = (a : List Element) (c : Element) (x b : List Element) → Innermost es a c x b → ⊥
 
 -- sentences tried in order on the argument x, with the right side that comes of it
 pub data Tried (x : List Element) : List (List Element) → Option (List Element) → Type 0 where
@@ -19,16 +38,16 @@ pub data Tried (x : List Element) : List (List Element) → Option (List Element
 
 -- a step: there is no call; the leading term's function is not there; none of its sentences fits; the new field has no room; or it is made
 pub data StepIs (fs : List Element) (room : ℕ) (es : List Element) : Step → Type 0 where
-  no-call : leading es ≡ nothing → StepIs fs room es idle
+  no-call : NoneLeads es → StepIs fs room es idle
   no-function : {place k : ℕ} {a : List Element} {c : Element} {x b : List Element}
-      → leading es ≡ lead a c x b → function (tail c) fs ≡ none → k ≡ 3 → place ≡ size a → StepIs fs room es (stuck k place)
+      → Leads es a c x b → function (tail c) fs ≡ none → k ≡ 3 → place ≡ size a → StepIs fs room es (stuck k place)
   no-match : {place k : ℕ} {a : List Element} {c : Element} {x b : List Element} {ss : List (List Element)}
-      → leading es ≡ lead a c x b → function (tail c) fs ≡ some ss → apply ss x ≡ none → k ≡ 2 → place ≡ size a → StepIs fs room es (stuck k place)
+      → Leads es a c x b → function (tail c) fs ≡ some ss → Tried x ss none → k ≡ 2 → place ≡ size a → StepIs fs room es (stuck k place)
   no-room : {place k : ℕ} {a : List Element} {c : Element} {x b r : List Element} {ss : List (List Element)}
-      → leading es ≡ lead a c x b → function (tail c) fs ≡ some ss → apply ss x ≡ some r → room < size (a ++ (r ++ b)) → k ≡ 4 → place ≡ size a
+      → Leads es a c x b → function (tail c) fs ≡ some ss → Tried x ss (some r) → room < size (a ++ (r ++ b)) → k ≡ 4 → place ≡ size a
       → StepIs fs room es (stuck k place)
   goes : {a : List Element} {c : Element} {x b r : List Element} {ss : List (List Element)} {es′ : List Element}
-      → leading es ≡ lead a c x b → function (tail c) fs ≡ some ss → apply ss x ≡ some r → size es′ ≤ room → es′ ≡ a ++ (r ++ b) → StepIs fs room es (onward es′)
+      → Leads es a c x b → function (tail c) fs ≡ some ss → Tried x ss (some r) → size es′ ≤ room → es′ ≡ a ++ (r ++ b) → StepIs fs room es (onward es′)
 
 -- exactly n steps lead from X to Y
 pub data Reaches (fs : List Element) (room : ℕ) : ℕ → List Element → List Element → Type 0 where
@@ -60,6 +79,10 @@ pub data Lawful (p f : List ℕ) (used : ℕ) (s : List ℕ) (budget : ℕ) : An
       → Lawful p f used s budget (answer 7 0 used place f (zeros (length s)))
   ran : {X : List ℕ} {c k place : ℕ} {Y : List Element} → Accepted p f used s X → Ends (elements p) (length f) budget (elements X) c k place Y
       → Lawful p f used s budget (answer c k (size Y) place (join Y ++ zeros (length f - size Y)) (zeros (length s)))
+
+-- the answer leaves the field Y after n steps
+abbrev pub LeftAs : List ℕ → ℕ → Answer → Type 0
+LeftAs Y n (answer c k v place g t) = (k ≡ n) × (v ≡ length Y) × (take v g ≡ Y)
 
 -- the answer that leaves A x B in a buffer of n bytes
 abbrev pub leaves : List ℕ → List ℕ → List ℕ → ℕ → ℕ → ℕ → ℕ → ℕ → Answer

@@ -13,7 +13,7 @@ pub data Desk : Type 0 where
 abbrev pub freshDesk : ℕ → List ℕ → List ℕ → Desk
 freshDesk used field scratch = desk used 1 0 field scratch
 
--- what an answer leaves: all but its steps
+-- what an answer leaves in the record and the buffers: all but its steps
 abbrev pub noted : Answer → Desk
 noted (answer c k used place field scratch) = desk used c place field scratch
 
@@ -25,6 +25,7 @@ deskCall program (desk used c place field scratch) =
       | false ↦ desk used c place field scratch
     ]
 
+-- "k calls", one after the other
 unfoldable pub deskCalls : List ℕ → ℕ → Desk → Desk
 deskCalls program zero d = d
 deskCalls program (suc k) d = deskCalls program k (deskCall program d)

@@ -11,15 +11,15 @@ use Rattle.meaning.specs.Elements.{Element, kind, body, among, isVariabl
 pub data Part : Type 0 where
   field outside start left right after ended : Part
 
--- the part; the open brackets, the latest first; the elements of this side so far; the different variables of the left side
+-- "given those before it": the part; the open brackets, the latest first; the elements of this side so far; the different variables of the left side
 pub data State : Type 0 where
   at : Part → List ℕ → ℕ → List Element → State
 
+-- k is one of the kinds a to b
 unfoldable pub span : ℕ → ℕ → ℕ → Bool
 span a b k = leb a k && leb k b
 
--- "Field. Kinds 01 to 07 only"; "Functions, or none, then 0F"; "A function is 0D, one or more sentences, 0E"; "A sentence is a left side, 0B, a
--- right side, 0C. A left side has kinds 01 to 05 and 08 to 0A; a right side has kinds 01 to 0A"
+-- what can "stand there": "Kinds 01 to 07 only"; "A left side has kinds 01 to 05 and 08 to 0A; a right side has kinds 01 to 0A"; the rest by the form of a program
 unfoldable pub stands : Part → ℕ → Bool
 stands field k = span 1 7 k
 stands outside k = eqb k 13 || eqb k 15
@@ -29,32 +29,35 @@ stands right k = span 1 10 k || eqb k 12
 stands after k = span 1 5 k || span 8 11 k || eqb k 14
 stands ended k = false
 
+-- no bracket is open
 abbrev pub empty : List ℕ → Bool
 empty [] = true
 empty (b ∷ bs) = false
 
--- the latest open bracket
+-- "the latest open bracket"
 abbrev pub top : List ℕ → ℕ
 top [] = 0
 top (b ∷ bs) = b
 
+-- the brackets that stay open when it is closed
 abbrev pub below : List ℕ → List ℕ
 below [] = []
 below (b ∷ bs) = bs
 
+-- a test that is made only where another holds
 abbrev pub implies : Bool → Bool → Bool
 implies true b = b
 implies false b = true
 
--- 0B ends a left side, 0C a right side
+-- "A sentence is a left side, 0B, a right side, 0C": these two end a side
 unfoldable pub endsSide : ℕ → Bool
 endsSide k = eqb k 11 || eqb k 12
 
--- "Each 05 closes the latest open bracket, which must be a 04; each 07 closes a 06"; no bracket is open at 0B or 0C
+-- "Each 05 closes the latest open bracket, which must be a 04; each 07 closes a 06"; not "0B or 0C comes with a bracket open"
 unfoldable pub paired : ℕ → List ℕ → Bool
 paired k opens = implies (eqb k 5) (eqb (top opens) 4) && (implies (eqb k 7) (eqb (top opens) 6) && implies (endsSide k) (empty opens))
 
--- after n elements another may come: 100 on a left side (the first of them comes behind a header or a sentence), 400 on a right side
+-- another may come after n: 100 "of a left side" (its first comes behind a header or a sentence), 400 "of a right side"
 unfoldable pub underLimit : Part → ℕ → Bool
 underLimit field n = true
 underLimit outside n = ltb n 100
@@ -64,6 +67,7 @@ underLimit right n = ltb n 400
 underLimit after n = ltb n 100
 underLimit ended n = ltb n 100
 
+-- in a right side: its variables are looked for on the left, and are not counted
 unfoldable pub onRight : Part → Bool
 onRight field = false
 onRight outside = false
@@ -101,7 +105,7 @@ firstFailing r (b ∷ bs) = elim b [ true ↦ firstFailing (suc r) bs | false �
 unfoldable pub fault : State → Element → ℕ
 fault s e = firstFailing 1 (tests s e)
 
--- the part to which an element of kind k leads
+-- the part to which an element of kind k leads: "Functions, or none, then 0F"; "A function is 0D, one or more sentences, 0E"
 unfoldable pub partAfter : Part → ℕ → Part
 partAfter field k = field
 partAfter outside k = cond (eqb k 13) start ended
@@ -111,6 +115,7 @@ partAfter right k = cond (eqb k 12) after right
 partAfter after k = cond (eqb k 11) right (cond (eqb k 14) outside left)
 partAfter ended k = ended
 
+-- the open brackets after an element of kind k: 04 and 06 open one, 05 and 07 close the latest
 unfoldable pub opensAfter : ℕ → List ℕ → List ℕ
 opensAfter k opens = cond (eqb k 4 || eqb k 6) (k ∷ opens) (cond (eqb k 5 || eqb k 7) (below opens) opens)
 
@@ -124,11 +129,11 @@ sided right = true
 sided after = false
 sided ended = false
 
--- the elements so far of the part q, to which an element of kind k led
+-- the elements so far of the part q, to which an element of kind k led: "brackets count, 0B and 0C do not"
 unfoldable pub countAfter : Part → ℕ → ℕ → ℕ
 countAfter q k n = cond (endsSide k || not (sided q)) 0 (suc n)
 
--- the different variables in the part q, to which e led
+-- the different variables of the left side, known on its right side too; e led to the part q
 unfoldable pub variablesAfter : Part → Element → List Element → List Element
 variablesAfter field e vs = []
 variablesAfter outside e vs = []
@@ -138,6 +143,7 @@ variablesAfter right e vs = vs
 variablesAfter after e vs = []
 variablesAfter ended e vs = []
 
+-- where reading stands behind e
 unfoldable pub stateAfter : State → Element → State
 stateAfter (at p opens n vs) e =
     at
@@ -146,7 +152,7 @@ stateAfter (at p opens n vs) e =
     (countAfter (partAfter p (kind e)) (kind e) n)
     (variablesAfter (partAfter p (kind e)) e vs)
 
--- the bytes may end here: behind 0F, or in a field with no bracket open
+-- the bytes may end here: behind 0F, or in a field with no bracket open; else they "end early (no 0F, or an open bracket in a field)"
 unfoldable pub mayEnd : State → Bool
 mayEnd (at field opens n vs) = empty opens
 mayEnd (at outside opens n vs) = false
@@ -156,14 +162,15 @@ mayEnd (at right opens n vs) = false
 mayEnd (at after opens n vs) = false
 mayEnd (at ended opens n vs) = true
 
--- "The place is the first bad element's offset. If none is bad but the bytes end early, the place is the length"
+-- "The place is the first bad element's offset. If none is bad but the bytes end early ..., the place is the length"
 unfoldable pub firstBad : State → ℕ → List Element → Option ℕ
 firstBad s i [] = cond (mayEnd s) none (some i)
 firstBad s i (e ∷ es) = cond (eqb (fault s e) 0) (firstBad (stateAfter s e) (i + length e) es) (some i)
 
--- "Read from the start": none, or the place
+-- "Program": read from the start, outside every function; none, or the place
 unfoldable pub badProgram : List ℕ → Option ℕ
 badProgram p = firstBad (at outside [] 0 []) 0 (elements p)
 
+-- "Field": read from the start, with no bracket open; none, or the place
 unfoldable pub badField : List ℕ → Option ℕ
 badField f = firstBad (at field [] 0 []) 0 (elements f)

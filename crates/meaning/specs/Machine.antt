@@ -9,24 +9,27 @@ use Rattle.meaning.specs.Elements.{Element, join, size, elements, isKind
 use Rattle.meaning.specs.Goodness.{badProgram, badField}
 use Rattle.meaning.specs.Matching.{free, seek, put, given}
 
--- the elements before the first of kind k, and those behind it
+-- the elements before the first of kind k: a left side is what stands before 0B, an argument what stands before its >
 unfoldable pub before : ℕ → List Element → List Element
 before k [] = []
 before k (e ∷ es) = elim (isKind k e) [ true ↦ [] | false ↦ e ∷ before k es ]
 
+-- the elements behind the first of kind k: a right side is what stands behind 0B
 unfoldable pub behind : ℕ → List Element → List Element
 behind k [] = []
 behind k (e ∷ es) = elim (isKind k e) [ true ↦ es | false ↦ behind k es ]
 
+-- an element of kind k is among them: "a < remains"
 unfoldable pub holds : ℕ → List Element → Bool
 holds k [] = false
 holds k (e ∷ es) = isKind k e || holds k es
 
--- the pieces that an element of kind k ends
+-- e goes onto the front of the first piece; what nothing ends is no piece
 unfoldable pub onto : Element → List (List Element) → List (List Element)
 onto e [] = []
 onto e (p ∷ ps) = (e ∷ p) ∷ ps
 
+-- the pieces that an element of kind k ends: a function's sentences, which 0C ends
 unfoldable pub pieces : ℕ → List Element → List (List Element)
 pieces k [] = []
 pieces k (e ∷ es) = elim (isKind k e) [ true ↦ [] ∷ pieces k es | false ↦ onto e (pieces k es) ]
@@ -36,11 +39,12 @@ pub data Lead : Type 0 where
   nothing : Lead
   lead : List Element → Element → List Element → List Element → Lead
 
+-- one element more stands before it
 unfoldable pub shift : Element → Lead → Lead
 shift e nothing = nothing
 shift e (lead a c x b) = lead (e ∷ a) c x b
 
--- a < before es has its > there, and no other < in between
+-- a < before es has its > there, and "holds no other <"
 unfoldable pub innermost : List Element → Bool
 innermost es = holds 7 es && not (holds 6 (before 7 es))
 
@@ -56,7 +60,7 @@ unfoldable pub function : List ℕ → List Element → Option (List (List Eleme
 function name [] = none
 function name (e ∷ es) = elim (same e (13 ∷ name)) [ true ↦ some (pieces 12 (before 14 es)) | false ↦ function name es ]
 
--- "Its function's sentences are tried in order. The first that fits": its right side with values put in
+-- "Its function's sentences are tried in order. The first that fits": its "right side with values put in"
 unfoldable pub apply : List (List Element) → List Element → Option (List Element)
 apply [] x = none
 apply (s ∷ ss) x =
@@ -72,7 +76,7 @@ pub data Step : Type 0 where
 unfoldable pub fitIn : ℕ → ℕ → List Element → Step
 fitIn room place es = elim (leb (size es) room) [ true ↦ onward es | false ↦ stuck 4 place ]
 
--- code 2: "no sentence of the function fits"; else the right side "replaces the whole term", and "nothing else in the field moves"
+-- code 2: "no sentence of the function fits"; else the right side "replaces the whole term", and "Nothing else in the field moves"
 unfoldable pub replace : ℕ → List Element → List Element → Option (List Element) → Step
 replace room a b none = stuck 2 (size a)
 replace room a b (some r) = fitIn room (size a) (a ++ r ++ b)
@@ -82,14 +86,16 @@ unfoldable pub call : ℕ → List Element → List Element → List Element →
 call room a x b none = stuck 3 (size a)
 call room a x b (some ss) = replace room a b (apply ss x)
 
+-- the leading term's function is the one that its < names: "< with its function's name number"
 unfoldable pub stepAt : List Element → ℕ → Lead → Step
 stepAt program room nothing = idle
 stepAt program room (lead a c x b) = call room a x b (function (tail c) program)
 
+-- the step of the field, in a buffer of that room
 unfoldable pub step : List Element → ℕ → List Element → Step
 step program room es = stepAt program room (leading es)
 
--- code, steps, place and the field's elements
+-- what a run comes to: code, steps, place and the field's elements
 pub data Result : Type 0 where
   result : ℕ → ℕ → ℕ → List Element → Result
 
@@ -108,11 +114,11 @@ run program room (suc n) k es =
 pub data Answer : Type 0 where
   answer : ℕ → ℕ → ℕ → ℕ → List ℕ → List ℕ → Answer
 
+-- no buffer may be "longer than 65,536 bytes"
 unfoldable pub longest : ℕ
 longest = 65536
 
--- "Bad sizes: the program, field buffer or scratch is longer than 65,536 bytes; the used length exceeds the field buffer; or the scratch is shorter
--- than the field buffer"
+-- none of "the program, field buffer or scratch is longer than 65,536 bytes; the used length exceeds the field buffer; or the scratch is shorter than the field buffer"
 unfoldable pub sizes : List ℕ → List ℕ → ℕ → List ℕ → Bool
 sizes program field used scratch =
     leb (length program) longest
@@ -126,8 +132,7 @@ unfoldable pub closing : List ℕ → List ℕ → Result → Answer
 closing field scratch (result c k place es) =
     answer c k (size es) place (join es ++ replicate (length field - size es) 0) (replicate (length scratch) 0)
 
--- "The checks come in the order 5, 6, 7"; "Codes 5 to 7: steps 0, used length as given, the field buffer untouched. The scratch is all zero
--- afterwards, save with code 5, which does not touch it"
+-- "in the order 5, 6, 7"; "Codes 5 to 7: steps 0, used length as given, the field buffer untouched. The scratch is all zero afterwards, save with code 5, which does not touch it"
 unfoldable pub machine : List ℕ → List ℕ → ℕ → List ℕ → ℕ → Answer
 machine program field used scratch budget =
     elim (sizes program field used scratch) [

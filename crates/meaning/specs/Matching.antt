@@ -15,9 +15,11 @@ pub data Terms : ℕ → List Element → Type 0 where
   symbol : {n : ℕ} {e : Element} {es : List Element} → T (isSymbol e) → Terms n es → Terms (suc n) (e ∷ es)
   bracket : {m n : ℕ} {xs es zs : List Element} → Terms m xs → Terms n es → zs ≡ xs ++ ((5 ∷ []) ∷ es) → Terms (suc n) ((4 ∷ []) ∷ zs)
 
+-- what an element of a left side is: a variable of one of the three kinds, or no variable
 pub data Role : Type 0 where
   sVar tVar eVar plain : Role
 
+-- 08, 09, 0A: "s-, t-, e-variable"
 unfoldable pub role : Element → Role
 role e = cond (isKind 8 e) sVar (cond (isKind 9 e) tVar (cond (isKind 10 e) eVar plain))
 
@@ -28,11 +30,11 @@ Stands tVar p v = Terms 1 v
 Stands eVar p v = (n : ℕ) × Terms n v
 Stands plain p v = v ≡ p ∷ []
 
--- an assignment gives each variable one value, so "all occurrences of a variable stand for equal values"
+-- an assignment gives each variable one value, so "All occurrences of a variable stand for equal values"
 abbrev pub Assignment : Type 0
 Assignment = Element → List Element
 
--- the values put into a side
+-- "putting the values into the left side", and a "right side with values put in"
 unfoldable pub put : Assignment → List Element → List Element
 put a [] = []
 put a (e ∷ es) = a e ++ put a es
@@ -42,8 +44,7 @@ pub record Fits (a : Assignment) (side arg : List Element) : Type 0 where
   pub each : (p : Element) → List·Memᴰ p side → Stands (role p) p (a p)
   pub exactly : put a side ≡ arg
 
--- "look at the e-variables in the order of their first occurrence, left to right through brackets": a is no later than b, which has as many terms
--- at each up to one at which a has fewer, or up to the end
+-- by "the e-variables in the order of their first occurrence, left to right through brackets", b has as many terms as a up to one at which a has fewer, or to the end
 pub data NoLater (a b : Assignment) : List Element → Type 0 where
   level : NoLater a b []
   fewer : {p : Element} {ps : List Element} {m n : ℕ} → role p ≡ eVar → Terms m (a p) → Terms n (b p) → m < n → NoLater a b (p ∷ ps)
@@ -60,17 +61,20 @@ pub record First (a : Assignment) (side arg : List Element) : Type 0 where
 pub data Way : Type 0 where
   way : List Element → List Element → Way
 
+-- e before a front
 unfoldable pub push : Element → Way → Way
 push e (way v r) = way (e ∷ v) r
 
+-- e before each front
 unfoldable pub pushAll : Element → List Way → List Way
 pushAll e [] = []
 pushAll e (w ∷ ws) = push e w ∷ pushAll e ws
 
--- an element inside an argument
+-- an element inside an argument: a symbol, a ( or a ), or neither
 pub data Token : Type 0 where
   symb opens closes other : Token
 
+-- which of them e is
 unfoldable pub token : Element → Token
 token e = cond (isSymbol e) symb (cond (same e (4 ∷ [])) opens (cond (same e (5 ∷ [])) closes other))
 
@@ -82,25 +86,25 @@ past rest e closes zero = []
 past rest e closes (suc d) = pushAll e (rest d)
 past rest e other d = []
 
--- the fronts that are runs of terms, fewest terms first; d brackets are open
+-- the fronts that are "any run of terms, also none", fewest terms first; d brackets are open
 unfoldable pub fronts : List Element → ℕ → List Way
 fronts [] zero = way [] [] ∷ []
 fronts [] (suc d) = []
 fronts (e ∷ es) zero = way [] (e ∷ es) ∷ past (fronts es) e (token e) zero
 fronts (e ∷ es) (suc d) = past (fronts es) e (token e) (suc d)
 
--- v at the front, or nothing
+-- v at the front, or nothing: of "equal values"
 unfoldable pub exact : List Element → List Element → List Way
 exact [] ys = way [] ys ∷ []
 exact (x ∷ xs) [] = []
 exact (x ∷ xs) (y ∷ ys) = elim (same x y) [ true ↦ pushAll x (exact xs ys) | false ↦ [] ]
 
--- one symbol at the front, or nothing
+-- "one symbol" at the front, or nothing
 unfoldable pub symbols : List Element → List Way
 symbols [] = []
 symbols (e ∷ es) = elim (isSymbol e) [ true ↦ way (e ∷ []) es ∷ [] | false ↦ [] ]
 
--- the second way, alone: of the fronts, the one of one term
+-- the second way, alone: of the fronts, the one of "one term"
 unfoldable pub second : List Way → List Way
 second [] = []
 second (w ∷ []) = []
@@ -117,19 +121,22 @@ fresh plain p xs = exact (p ∷ []) xs
 abbrev pub Env : Type 0
 Env = Element → Option (List Element)
 
+-- none is met yet
 unfoldable pub free : Env
 free w = none
 
+-- v has the value x
 unfoldable pub bind : Element → List Element → Env → Env
 bind v x env w = elim (same v w) [ true ↦ some x | false ↦ env w ]
 
+-- a variable keeps its value; what is no variable has none
 unfoldable pub keep : Role → Element → List Element → Env → Env
 keep sVar p v env = bind p v env
 keep tVar p v env = bind p v env
 keep eVar p v env = bind p v env
 keep plain p v env = env
 
--- a variable that has a value stands for it again
+-- a variable that has a value stands for it again: "All occurrences of a variable stand for equal values"
 unfoldable pub known : Option (List Element) → Element → List Element → List Way
 known none p xs = fresh (role p) p xs
 known (some v) p xs = exact v xs

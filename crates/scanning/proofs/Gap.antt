@@ -6,8 +6,7 @@ use native.Mathlib.Omega.{arith}
 use lib.ListN.{length, getD, take, drop, length-drop, take-append-drop, drop-of-length-le}
 use lib.Seq.{paste, take-paste, drop-paste, drop-drop, take-add, take-take, take-append-le, take-all, drop-at, getD-drop, getD-at, length-take-le}
 use Rattle.meaning.specs.Elements.{Element, kind, cut, join, size}
-use Rattle.meaning.proofs.Cutting.{join-cut}
-use Rattle.meaning.proofs.Leading.{join-append}
+use Rattle.meaning.proofs.Cutting.{join-cut, join-append}
 use Rattle.scanning.specs.State.{fieldOf, fieldAt}
 use Rattle.scanning.proofs.Marks.{same-front, same-back}
 

@@ -13,8 +13,8 @@ use Rattle.meaning.specs.Machine.{holds, nothing, lead, Lead, leading}
 use Rattle.meaning.proofs.Truth.{never, is-true, is-false, see, or-false}
 use Rattle.meaning.proofs.Cutting.{Whole, w-none, w-more, cut-join}
 use Rattle.meaning.proofs.Balance.{brackets}
-use Rattle.meaning.proofs.Leading.{holds-append, leading-closed}
-use Rattle.meaning.proofs.Runs.{some-leading}
+use Rattle.meaning.proofs.Holding.{holds-append}
+use Rattle.meaning.proofs.Leading.{leading-closed, some-leading}
 use Rattle.scanning.specs.State.{isCall, marksOf, calm, stack, Opens, none-open, one-open}
 
 pub size-nil : size [] ≡ 0

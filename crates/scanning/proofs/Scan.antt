@@ -12,8 +12,8 @@ use borrow.Author.Tests.{ne-eqb, eqb-true}
 use Rattle.meaning.specs.Elements.{Element, kind, body, cut, join, size}
 use Rattle.meaning.specs.Machine.{holds}
 use Rattle.meaning.proofs.Truth.{never, or-left}
-use Rattle.meaning.proofs.Cutting.{Whole, cut-at}
-use Rattle.meaning.proofs.Leading.{holds-append, join-append, size-append}
+use Rattle.meaning.proofs.Cutting.{Whole, cut-at, join-append, size-append}
+use Rattle.meaning.proofs.Holding.{holds-append}
 use Rattle.kinds.specs.Characters.{Characters, no-character, one-character}
 use Rattle.scanning.specs.State.{fieldAt, Good, isCall, marksOf, calm, Standing, Reached, Next, Advanced}
 use Rattle.scanning.proofs.Marks.{size-nil, size-cons, whole-right, whole-first, join-whole, stack-push, opens-no7, opens-many, opens-call, no-close, first-mark, no-mark, Calmed, all-calm, then-call, calmed, calm-call, calm-plain}

@@ -10,8 +10,9 @@ use lib.Seq.{paste, length-paste}
 use Rattle.meaning.specs.Elements.{Element, kind, body, size, isKind}
 use Rattle.meaning.specs.Machine.{before, behind, holds, innermost, lead, leading}
 use Rattle.meaning.proofs.Truth.{never, or-right}
-use Rattle.meaning.proofs.Cutting.{Whole}
-use Rattle.meaning.proofs.Leading.{holds-append, size-append, leading-left, leading-here}
+use Rattle.meaning.proofs.Cutting.{Whole, size-append}
+use Rattle.meaning.proofs.Holding.{holds-append}
+use Rattle.meaning.proofs.Leading.{leading-left, leading-here}
 use Rattle.meaning.proofs.Balance.{call-first, fours}
 use Rattle.scanning.specs.State.{fieldAt, Good, stack, Opens, none-open, one-open, Reached}
 use Rattle.scanning.proofs.Marks.{size-cons, whole-left, whole-right, opens-no7}

@@ -11,9 +11,8 @@ use Rattle.meaning.specs.Elements.{Element, elements, join, size, among, isVari
 use Rattle.meaning.specs.Matching.{put}
 use Rattle.meaning.specs.Machine.{apply, function, step, onward}
 use Rattle.meaning.proofs.Truth.{never}
-use Rattle.meaning.proofs.Cutting.{Whole}
+use Rattle.meaning.proofs.Cutting.{Whole, size-append}
 use Rattle.meaning.proofs.Programs.{Functions}
-use Rattle.meaning.proofs.Leading.{size-append}
 use Rattle.meaning.proofs.Steps.{step-good}
 use Rattle.scanning.specs.State.{fieldAt, Good, marksOf}
 use Rattle.building.specs.Build.{sideOf, pour, Ready, Calm, spans, callsOf, placed, Given, Measured}

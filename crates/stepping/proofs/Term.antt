@@ -12,10 +12,9 @@ use borrow.Author.Tests.{le-leb, lt-leb}
 use Rattle.meaning.specs.Elements.{Element, body, cut, elements, join, size}
 use Rattle.meaning.specs.Machine.{Step, stuck, onward, fitIn, replace, call, stepAt, step, apply, function}
 use Rattle.meaning.proofs.Truth.{never}
-use Rattle.meaning.proofs.Cutting.{Whole, w-none, w-more}
-use Rattle.meaning.proofs.Leading.{join-append, size-append}
+use Rattle.meaning.proofs.Cutting.{Whole, w-none, w-more, join-append, size-append}
+use Rattle.meaning.proofs.Leading.{leading-parts}
 use Rattle.meaning.proofs.Programs.{Solid, solid-split}
-use Rattle.meaning.proofs.Steps.{leading-parts}
 use Rattle.elements.specs.Reading.{Balanced}
 use Rattle.scanning.specs.State.{fieldAt, Good}
 use Rattle.scanning.proofs.Marks.{size-nil, size-cons, whole-left, whole-right, join-whole}
