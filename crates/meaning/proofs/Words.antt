@@ -1,5 +1,4 @@
--- The words in which Demands speaks, beside those of specs/: the leading term, a step by its cases, steps in a row, the end of a run, the table of the
--- answers.
+-- The words in which Demands speaks, beside those of specs/: the leading term, a step, steps in a row, the end of a run, the table of the answers.
 use mathlib.Core.Path.{_≡_}
 use mathlib.Core.Bool.{true, false}
 use mathlib.Core.Option.{Option, none, some}
@@ -25,7 +24,7 @@ pub record Leads (es a : List Element) (c : Element) (x b : List Element) : Type
   pub term : Innermost es a c x b
   pub leftmost : {a′ : List Element} {c′ : Element} {x′ b′ : List Element} → Innermost es a′ c′ x′ b′ → length a ≤ length a′
 
--- there is none
+-- there is none: in a good field exactly if it has no < (`demand-2-no-call`)
 abbrev pub NoneLeads : List Element → Type 0
 NoneLeads es = (a : List Element) (c : Element) (x b : List Element) → Innermost es a c x b → ⊥
 
