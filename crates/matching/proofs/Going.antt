@@ -75,12 +75,6 @@ pub going-start : {left : List ℕ} {i : ℕ} {arg : List ℕ} {at : ℕ} {b : L
 going-start {b = b} {m} r = record { on = omega arith; ready = r; same = refl; kept = kept-self m b; more = λ v l w. w }
 
 module _ {left : List ℕ} {i : ℕ} {arg : List ℕ} {at : ℕ} {b₀ : List ℕ} {m₀ here place : ℕ} {b : List ℕ} {m : ℕ} (g : Going left i arg at b₀ m₀ here place b m) where
-  xs : List (List ℕ)
-  xs = elements (drop place arg)
-
-  env : Env
-  env = envOf arg b m
-
   -- the search ends where it has come to
   pub going-lost : {b′ : List ℕ} → seek (elements (drop here left)) (elements (drop place arg)) (envOf arg b m) ≡ none → Kept m b b′
       → Outcome arg b₀ m₀ b′ (seek (elements (drop i left)) (elements (drop at arg)) (envOf arg b₀ m₀)) false
