@@ -17,7 +17,7 @@ use Rattle.scanning.specs.State.{isCall}
 use Rattle.scanning.proofs.Marks.{size-nil, size-cons}
 use Rattle.building.specs.Build.{sideOf, piece, pour, Ready, spanOf, spans, callsOf, placed, Pivot, at-end, at-variable, Measured}
 use Rattle.building.proofs.Sides.{side-end}
-use Rattle.building.proofs.Spans.{span-plain, Walk, call-by-kind, variable-by-kind, calls-one, calls-none, placed-one, placed-none, spans-cons}
+use Rattle.building.proofs.Spans.{span-plain, Walk, call-by-kind, variable-by-kind, calls-one, calls-none, placed-one, placed-none, spans-now}
 
 nothing-left : (p : List ℕ) (at to : ℕ) (b : List ℕ) → to ≤ at → to ≤ length p → (spans b (sideOf p at to) ≡ 0) × (callsOf (sideOf p at to) ≡ 0)
 unfolding spans callsOf
@@ -43,11 +43,8 @@ measuring-start p from to f b limit h w r =
 
 module _ (p : List ℕ) (from to : ℕ) (f b : List ℕ) (limit at n calls pivot : ℕ) (i : Measuring p from to f b limit at n calls pivot) where
   module _ (len : ℕ) (w : Walk p at to f b len) where
-    spans-now : spans b (sideOf p at to) ≡ spanOf b (take len (drop at p)) + spans b (sideOf p (at + len) to)
-    spans-now = ap (spans b) (w .is) ∙ spans-cons b (take len (drop at p)) (sideOf p (at + len) to)
-
     pub measured-no : limit - n < spanOf b (take len (drop at p)) → {m k q : ℕ} → Measured p from to b limit false m k q
-    measured-no h = record { yes = λ z. never (cc); no = λ _. (let r = i .room in omega (arith, i .n-so, spans-now)) }
+    measured-no h = record { yes = λ z. never (cc); no = λ _. (let r = i .room in omega (arith, i .n-so, spans-now w)) }
 
     pub measuring-more : (calls′ pivot′ : ℕ) → calls′ ≡ cond (isCall (getD p at 0 ∷ [])) (calls + 1) calls → (pivot′ ≡ pivot) ⊎ ((isVariable (getD p at 0 ∷ []) ≡ true) × (pivot′ ≡ at))
         → spanOf b (take len (drop at p)) ≤ limit - n → Measuring p from to f b limit (at + len) (n + spanOf b (take len (drop at p))) calls′ pivot′
@@ -62,7 +59,7 @@ module _ (p : List ℕ) (from to : ℕ) (f b : List ℕ) (limit at n calls pivot
           upto = w .within;
           whole = w .whole;
           ready = w .ready;
-          n-so = omega (arith, i .n-so, spans-now);
+          n-so = omega (arith, i .n-so, spans-now w);
           room = omega arith;
           calls-so = count .0;
           few = count .1;
@@ -107,11 +104,8 @@ pub record Building (p : List ℕ) (from to : ℕ) (f b out₀ : List ℕ) (star
 
 module _ (p : List ℕ) (from to : ℕ) (f b out₀ : List ℕ) (start : ℕ) (out : List ℕ) (at n : ℕ) (i : Building p from to f b out₀ start out at n) where
   module _ (len : ℕ) (w : Walk p at to f b len) where
-    span-now : spans b (sideOf p at to) ≡ spanOf b (take len (drop at p)) + spans b (sideOf p (at + len) to)
-    span-now = ap (spans b) (w .is) ∙ spans-cons b (take len (drop at p)) (sideOf p (at + len) to)
-
     pub build-room : start + spans b (sideOf p from to) ≤ length out₀ → n + spanOf b (take len (drop at p)) ≤ length out
-    build-room h = let l = i .long in omega (arith, i .n-so, span-now)
+    build-room h = let l = i .long in omega (arith, i .n-so, spans-now w)
 
     pub building-more : (m : ℕ) (out′ : List ℕ) → m ≡ n + spanOf b (take len (drop at p)) → take m out′ ≡ take n out ++ piece f b (take len (drop at p)) → length out′ ≡ length out
         → Building p from to f b out₀ start out′ (at + len) m
@@ -122,7 +116,7 @@ module _ (p : List ℕ) (from to : ℕ) (f b out₀ : List ℕ) (start : ℕ) (o
           whole = w .whole;
           ready = w .ready;
           long = l ∙ i .long;
-          n-so = omega (arith, em, i .n-so, span-now);
+          n-so = omega (arith, em, i .n-so, spans-now w);
           so =
               ap (λ (t : List ℕ). t ++ pour f b (sideOf p (at + len) to)) eo ∙ append-assoc (take n out) (piece f b (take len (drop at p))) (pour f b (sideOf p (at + len) to))
               ∙ ap {B = List ℕ} (λ (z : List Element). take n out ++ pour f b z) (sym (w .is)) ∙ i .so;
@@ -146,14 +140,11 @@ pub record Noting (p : List ℕ) (from to : ℕ) (f b : List ℕ) (start : ℕ) 
 
 module _ (p : List ℕ) (from to : ℕ) (f b : List ℕ) (start : ℕ) (calls₀ : List ℕ) (first : ℕ) (calls : List ℕ) (i at k : ℕ) (s : Noting p from to f b start calls₀ first calls i at k) where
   module _ (len : ℕ) (w : Walk p i to f b len) where
-    reach-now : spans b (sideOf p i to) ≡ spanOf b (take len (drop i p)) + spans b (sideOf p (i + len) to)
-    reach-now = ap (spans b) (w .is) ∙ spans-cons b (take len (drop i p)) (sideOf p (i + len) to)
-
     by-kind : isCall (take len (drop i p)) ≡ isCall (getD p i 0 ∷ [])
     by-kind = call-by-kind (take len (drop i p)) (getD p i 0) (w .sort)
 
     pub on-room : start + spans b (sideOf p from to) ≤ 65536 → at + spanOf b (take len (drop i p)) ≤ 65536
-    on-room h = omega (arith, s .reach, reach-now)
+    on-room h = omega (arith, s .reach, spans-now w)
 
     pub note-room : start + spans b (sideOf p from to) ≤ 65536 → first + callsOf (sideOf p from to) ≤ length calls₀ → isCall (getD p i 0 ∷ []) ≡ true → spanOf b (take len (drop i p)) ≡ len
         → (k < length calls) × (at < 65536)
@@ -161,7 +152,7 @@ module _ (p : List ℕ) (from to : ℕ) (f b : List ℕ) (start : ℕ) (calls₀
         let q = calls-one b (take len (drop i p)) (sideOf p (i + len) to) (by-kind ∙ c) in
         let l = s .long in
         let ws = w .some in
-        (omega (arith, s .index, ap callsOf (w .is), q), omega (arith, s .reach, reach-now))
+        (omega (arith, s .index, ap callsOf (w .is), q), omega (arith, s .reach, spans-now w))
 
     pub noting-more : (k′ : ℕ) (calls′ : List ℕ) → k′ ≡ cond (isCall (getD p i 0 ∷ [])) (k + 1) k → calls′ ≡ cond (isCall (getD p i 0 ∷ [])) (set calls k at) calls
         → Noting p from to f b start calls₀ first calls′ (i + len) (at + spanOf b (take len (drop i p))) k′
@@ -176,7 +167,7 @@ module _ (p : List ℕ) (from to : ℕ) (f b : List ℕ) (start : ℕ) (calls₀
                 upto = w .within;
                 whole = w .whole;
                 ready = w .ready;
-                reach = omega (arith, s .reach, reach-now);
+                reach = omega (arith, s .reach, spans-now w);
                 index = omega (arith, e, s .index, ap callsOf (w .is), q);
                 long = ap length g ∙ length-set calls k at ∙ s .long;
                 so = rw (g, e, add-one) (ap (sets calls k) (sym m) ∙ s .so);
@@ -190,7 +181,7 @@ module _ (p : List ℕ) (from to : ℕ) (f b : List ℕ) (start : ℕ) (calls₀
                 upto = w .within;
                 whole = w .whole;
                 ready = w .ready;
-                reach = omega (arith, s .reach, reach-now);
+                reach = omega (arith, s .reach, spans-now w);
                 index = omega (arith, e, s .index, ap callsOf (w .is), q);
                 long = ap length g ∙ s .long;
                 so = rw (g, e) (ap (sets calls k) (sym m) ∙ s .so);

@@ -1,5 +1,5 @@
 -- How long what a side gives is, element by element.
-use mathlib.Core.Path.{_≡_, refl, sym, _∙_}
+use mathlib.Core.Path.{_≡_, refl, sym, _∙_, ap}
 use mathlib.Core.Bool.{true, false}
 use mathlib.Core.List.{List, [], _∷_}
 use Prim.Native.Nat.{ℕ, suc, _+_, _-_, _≤_, _<_}
@@ -39,14 +39,6 @@ module _ (p : List ℕ) (at len : ℕ) (f b : List ℕ) (w : Known p at len f b)
       let ek : kind (take len (drop at p)) ≡ k = kind-is p at len f b w ∙ sym e in
       let ev : getD (take len (drop at p)) 1 0 ≡ v = getD-take len (drop at p) 1 0 (omega arith) ∙ getD-drop at p 1 0 ∙ sym q in
       sym (rw (y, ek, ev))
-
-  pub span-short : length f ≤ 65536 → len ≤ 5 → spanOf b (take len (drop at p)) ≤ 65536
-  unfolding spanOf
-  span-short h l =
-      elim (see (isVariable (take len (drop at p)))) [
-        | is-true v ↦ rw v (let d = w .var v .1 in let y = d .fits in omega arith)
-        | is-false v ↦ rw v (omega (arith, long-known))
-      ]
 
 piece-long : (f b : List ℕ) (e : Element) → (isVariable e ≡ true → Held f b e) → length (piece f b e) ≡ spanOf b e
 unfolding piece spanOf valueOf
@@ -129,6 +121,7 @@ module _ (b : List ℕ) (e : Element) (es : List Element) where
   unfolding placed
   placed-none at h = rw (h, placed)
 
-  pub spans-cons : spans b (e ∷ es) ≡ spanOf b e + spans b es
-  unfolding spans
-  spans-cons = refl
+-- what a side gives is what its next element gives, and the rest
+pub spans-now : {p : List ℕ} {at to : ℕ} {f b : List ℕ} {len : ℕ} → Walk p at to f b len → spans b (sideOf p at to) ≡ spanOf b (take len (drop at p)) + spans b (sideOf p (at + len) to)
+unfolding spans
+spans-now {b = b} w = ap (spans b) (w .is)

@@ -13,8 +13,8 @@ use Rattle.meaning.specs.Elements.{kind, body, elements, isSymbol}
 use Rattle.meaning.proofs.Truth.{never, true-T, is-true, is-false, see}
 use Rattle.elements.specs.Reading.{Balanced, ended, symbols, opening, closing}
 use Rattle.elements.proofs.Places.{here, cut-here, none-left}
-use Rattle.matching.specs.Binding.{Variable, LeftSide, l-end, l-symbol, l-open, l-close, l-variable}
-use Rattle.matching.proofs.Ends.{s-role, t-role, e-role, roles}
+use Rattle.settling.specs.Values.{Variable, LeftSide, l-end, l-symbol, l-open, l-close, l-variable}
+use Rattle.settling.proofs.Ends.{s-role, t-role, e-role, roles}
 use Rattle.cases_matching.specs.Sides.{If, Standing, a-symbol, an-open, a-close, a-variable, depthAfter, Side}
 
 pub record Scan (s : List ℕ) (variables : Bool) (at d : ℕ) : Type 0 where

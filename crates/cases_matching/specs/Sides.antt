@@ -6,7 +6,7 @@ use Prim.Native.Nat.{ℕ, _+_, _-_, _≤_, _<_}
 use lib.Dec.{eqb}
 use Rattle.meaning.specs.Elements.{elements}
 use Rattle.elements.specs.Reading.{Balanced}
-use Rattle.matching.specs.Binding.{LeftSide}
+use Rattle.settling.specs.Values.{LeftSide}
 
 abbrev pub If : Bool → Type 0 → Type 0
 If true P = P

@@ -17,7 +17,8 @@ use Rattle.meaning.proofs.Cutting.{Whole}
 use Rattle.meaning.proofs.Searching.{given-itself}
 use Rattle.meaning.proofs.Holding.{holds-append, before-none}
 use Rattle.meaning.proofs.Programs.{before-here, behind-here, behind-on, pieces-end, pieces-on}
-use Rattle.matching.specs.Binding.{LeftSide, Matched, no-fit, first-fit}
+use Rattle.settling.specs.Values.{LeftSide}
+use Rattle.matching.specs.Binding.{Matched, no-fit, first-fit}
 use Rattle.building.specs.Build.{sideOf, pour, Ready}
 use Rattle.choosing.specs.Choose.{restOf, sentences, Sentence, Body, body-end, body-more, Chosen, none-fits, one-fits}
 use Rattle.scanning.proofs.Marks.{size-nil, size-cons, whole-left, whole-right}

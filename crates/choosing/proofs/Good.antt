@@ -16,7 +16,7 @@ use Rattle.meaning.specs.Machine.{holds}
 use Rattle.meaning.proofs.Truth.{never, Seen, is-true, is-false, see, and-left, and-right, or-left, or-right, true-T, T-true, same-eq, same-refl}
 use Rattle.meaning.proofs.Programs.{Passed, Took, took, good-whole, shut-empty, other-kind, among-append}
 use Rattle.kinds.proofs.Bodies.{body-var}
-use Rattle.matching.specs.Binding.{LeftSide, l-end, l-symbol, l-open, l-close, l-variable}
+use Rattle.settling.specs.Values.{LeftSide, l-end, l-symbol, l-open, l-close, l-variable}
 use Rattle.building.specs.Build.{sideOf}
 use Rattle.choosing.specs.Choose.{restOf, Body, body-end, body-more, Bodies, bodies-none, bodies-more, Program}
 

@@ -15,8 +15,9 @@ use Rattle.meaning.specs.Machine.{holds}
 use Rattle.meaning.proofs.Truth.{never, and-left, and-right, T-true, is-true, is-false, see, or-right, same-eq, same-refl}
 use Rattle.meaning.proofs.Cutting.{Whole, w-none, w-more, join-cut, join-append}
 use Rattle.meaning.proofs.Holding.{holds-append}
-use Rattle.matching.specs.Binding.{LeftSide, l-end, l-symbol, l-open, l-close, l-variable, Variable, Bound}
-use Rattle.matching.proofs.Sides.{proper-whole}
+use Rattle.settling.specs.Values.{LeftSide, l-end, l-symbol, l-open, l-close, l-variable, Variable}
+use Rattle.matching.specs.Binding.{Bound}
+use Rattle.settling.proofs.Sides.{proper-whole}
 use Rattle.kinds.specs.Slots.{slotOf, valueOf}
 use Rattle.building.specs.Build.{piece, pour, Held, Ready, ready-none, ready-more, spanOf, Calm}
 

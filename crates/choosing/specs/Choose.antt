@@ -9,7 +9,7 @@ use Rattle.meaning.specs.Elements.{Element, kind, isVariable, join, among}
 use Rattle.meaning.specs.Matching.{put}
 use Rattle.meaning.specs.Machine.{holds, function, pieces, before}
 use Rattle.meaning.proofs.Cutting.{Whole}
-use Rattle.matching.specs.Binding.{LeftSide}
+use Rattle.settling.specs.Values.{LeftSide}
 use Rattle.building.specs.Build.{sideOf, pour, Ready, Calm}
 use Rattle.choosing.specs.declared.Spot.{Spot}
 use Rattle.choosing.specs.declared.Spot.the-variants.{At, Nowhere}

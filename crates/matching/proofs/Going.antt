@@ -5,25 +5,26 @@ use mathlib.Core.Option.{none, some}
 use mathlib.Core.List.{List, [], _∷_, _++_, append-assoc}
 use Prim.Native.Nat.{ℕ, suc, _+_, _-_, _≤_, _<_}
 use native.Mathlib.Omega.{arith}
-use lib.ListN.{length, getD, take, drop}
-use lib.Dec.{eqb, leb}
-use borrow.Author.Tests.{lt-leb, leb-true, leb-false, eq-eqb, ne-eqb}
-use Rattle.meaning.specs.Elements.{kind, body, elements, isVariable}
+use lib.ListN.{length, take, drop}
+use lib.Dec.{eqb}
+use borrow.Author.Tests.{eq-eqb, ne-eqb}
+use Rattle.meaning.specs.Elements.{kind, body, elements}
 use Rattle.meaning.specs.Goodness.{span}
 use Rattle.meaning.specs.Matching.{Terms, stop, symbol, bracket, Role, sVar, tVar, eVar, plain, role, Stands, Way, way, fronts, fresh, known, Env, bind, keep, firstOf, seek}
-use Rattle.meaning.proofs.Truth.{never, is-true, is-false, see}
+use Rattle.meaning.proofs.Truth.{never}
 use Rattle.meaning.proofs.Searching.{Good, known-each, Each, one-more}
 use Rattle.meaning.proofs.Trying.{first-none, first-one}
 use Rattle.kinds.specs.Slots.{slotOf, within, joined, valueOf}
 use Rattle.elements.specs.declared.Found.the-variants.{At, Nothing}
-use Rattle.elements.specs.Reading.{Splits, Whole1, PassedOver, ProperAt, Proper, none, more, Balanced, symbols, opening, closing}
-use Rattle.elements.proofs.Digits.{one-byte}
-use Rattle.elements.proofs.Places.{symbol-kind, none-left as nothing-left, ends-here, here as there, kind-here, cut-here, proper-splits, head, head-symbol, head-open, head-close}
+use Rattle.elements.specs.Reading.{Splits, Proper, none, more, Balanced, symbols, opening, closing}
+use Rattle.elements.proofs.Places.{symbol-kind, none-left as nothing-left, ends-here, head, head-symbol, head-open, head-close}
 use Rattle.elements.proofs.Levels.{behind-terms}
-use Rattle.matching.specs.Binding.{envOf, Variable, LeftSide, l-symbol, l-open, l-close, l-variable, LeftAt, SlotAt, Table, Ready, Kept, Outcome, lost, won, FreshE, Slotted, of-variable, of-fixed, Single, Ways, one-way, no-ways, OnlyEnd, noting, Settled, as-before, noted}
-use Rattle.matching.proofs.Slots.{slot-small, env-open, env-settled, bind-again, bind-noted, table-noted, table-sure, noting-kept, kept-self, kept-more, within-more}
-use Rattle.matching.proofs.Sides.{bare, symbol-whole, part-elements, l-head, h-symbol, h-open, h-close, h-variable}
-use Rattle.matching.proofs.Ends.{role-fixed, s-role, t-role, e-role, roles}
+use Rattle.settling.specs.Values.{envOf, Variable, LeftSide, LeftAt, Table, Ready, Kept, FreshE, of-variable, of-fixed, Single, Ways, one-way, no-ways, OnlyEnd, noting, Settled, as-before, noted}
+use Rattle.matching.specs.Binding.{Outcome, lost, won}
+use Rattle.settling.proofs.Slots.{slot-small, env-open, env-settled, bind-again, bind-noted, table-noted, table-sure, noting-kept, kept-self, kept-more, within-more}
+use Rattle.settling.proofs.Sides.{bare, symbol-whole, part-elements, l-head, h-symbol, h-open, h-close, h-variable}
+use Rattle.settling.proofs.Next.{low-fixed, Next}
+use Rattle.settling.proofs.Ends.{role-fixed, s-role, t-role, e-role, roles}
 
 -- RUNS OF TERMS IN A BALANCED ARGUMENT
 
@@ -53,119 +54,12 @@ pub keep-bind : {k n : ℕ} → Variable k n → (v : List (List ℕ)) (env : En
 unfolding keep
 keep-bind w v env = elim (roles w) [ s-role e f ↦ rw f | t-role e f ↦ rw f | e-role e f ↦ rw f ]
 
-variable-whole : {k n : ℕ} → Variable k n → Whole1 (k ∷ n ∷ [])
-unfolding span body
-variable-whole {k} {n} v =
-    elim (roles v) [
-      | s-role e f ↦ rw e (record { known = refl; long = refl })
-      | t-role e f ↦ rw e (record { known = refl; long = refl })
-      | e-role e f ↦ rw e (record { known = refl; long = refl })
-    ]
-
-low-fixed : (e : List ℕ) → kind e < 8 → isVariable e ≡ false
-unfolding isVariable
-low-fixed e h = rw (lt-leb 8 (kind e) h)
-
 -- what a variable stands for is a run of terms
 stands-terms : (t : Role) (p : List ℕ) (v : List (List ℕ)) → (t ≡ plain → ⊥) → Stands t p v → (n : ℕ) × Terms n v
 stands-terms sVar p v h (e, t, q) = (1, rw q (symbol t stop))
 stands-terms tVar p v h s = (1, s)
 stands-terms eVar p v h s = s
 stands-terms plain p v h s = absurd (h refl)
-
--- THE LEFT SIDE'S NEXT ELEMENT
-
-module _ {left : List ℕ} {at : ℕ} (l : LeftAt left at) where
-  whole-at : (e : List ℕ) (es : List (List ℕ)) → elements (drop at left) ≡ e ∷ es → Whole1 e
-  whole-at e es q =
-      elim (l-head (rw q at (l .left-side))) [
-        | h-symbol t w s ↦ symbol-whole e t w
-        | h-open p s ↦ rw p (bare 4 (unfold span in refl) (unfold body in refl))
-        | h-close d p s ↦ rw p (bare 5 (unfold span in refl) (unfold body in refl))
-        | h-variable {k} {n} v p s ↦ rw p (variable-whole v)
-      ]
-
-  pub left-proper : ProperAt left at
-  left-proper = record { e = there left at (l .inside); es = _; is = cut-here left at (l .inside); whole = whole-at _ _ (cut-here left at (l .inside)) }
-
-  pub left-kind : kind (left-proper .e) ≡ getD left at 0
-  unfolding left-proper
-  left-kind = kind-here left at (l .inside)
-
-  same-there : (e : List ℕ) (es : List (List ℕ)) → elements (drop at left) ≡ e ∷ es → there left at (l .inside) ≡ e
-  same-there e es q = cc (cut-here left at (l .inside), q)
-
-  -- the slot by the kind
-  pub slot-fixed : getD left at 0 < 8 → SlotAt left at 48
-  slot-fixed h = record {
-    slotted = λ e es q. of-fixed (low-fixed e (let k : kind e ≡ getD left at 0 = sym (ap kind (same-there e es q)) ∙ kind-here left at (l .inside) in omega arith)) refl;
-    high = omega arith;
-  }
-
-  pub record NamedAt : Type 0 where
-    pub v : Variable (getD left at 0) (getD left (at + 1) 0)
-    pub long : at + 1 < length left
-    pub is : there left at (l .inside) ≡ getD left at 0 ∷ getD left (at + 1) 0 ∷ []
-
-  pub named-at : 8 ≤ getD left at 0 → NamedAt
-  unfolding there
-  named-at h =
-      let kh = kind-here left at (l .inside) in
-      elim (l-head (rw (cut-here left at (l .inside)) at (l .left-side))) [
-        | h-symbol t w s ↦ never (let w = symbol-kind _ t in omega arith)
-        | h-open q s ↦ never (let w : getD left at 0 ≡ 4 = ap kind q in omega arith)
-        | h-close d q s ↦ never (let w : getD left at 0 ≡ 5 = ap kind q in omega arith)
-        | h-variable {k} {n} v q s ↦
-            let ek : getD left at 0 ≡ k = ap kind q in
-            let one : body (getD left at 0) ≡ 1 = (let w = variable-whole v .long in rw ek (omega arith)) in
-            let long : at + 1 < length left = omega (arith, proper-splits left-proper .fits) in
-            let tail : take (body (getD left at 0)) (drop (at + 1) left) ≡ n ∷ [] = cc in
-            let en : getD left (at + 1) 0 ≡ n = cc (one-byte left (at + 1) long, rw one at tail) in
-            record { v = rw (ek, en) v; long = long; is = rw one (ap {B = List ℕ} (λ (l : List ℕ). getD left at 0 ∷ l) (one-byte left (at + 1) long)) }
-      ]
-
-  pub slot-named : 8 ≤ getD left at 0 → (r : ℕ) → r ≡ slotOf (getD left at 0) (getD left (at + 1) 0) → r < 48 → SlotAt left at r
-  slot-named h r q s =
-      let n = named-at h in
-      record { slotted = λ e es p. of-variable (n .v) (sym (same-there e es p) ∙ n .is) q; high = omega arith }
-
--- the next element of a left side, the place behind it and its slot
-pub record Next (left : List ℕ) (here next slot : ℕ) : Type 0 where
-  pub e : List ℕ
-  pub kind-is : kind e ≡ getD left here 0
-  pub on : here < next
-  pub split : Splits left here (e ∷ []) next
-  pub slotted : Slotted e slot
-
-pub next-here : {left : List ℕ} {here k next slot : ℕ} → LeftAt left here → PassedOver left here k next → SlotAt left here slot → Next left here next slot
-next-here l p s =
-    let w = left-proper l in
-    let q = p .next-is in
-    record { e = w .e; kind-is = left-kind l; on = omega arith; split = rw q (proper-splits w); slotted = s .slotted (w .e) (w .es) (w .is) }
-
--- an opening bracket, and the left side behind it
-pub opening-next : {left : List ℕ} {here next slot : ℕ} → LeftAt left here → (x : Next left here next slot) → getD left here 0 ≡ 4 → (x .e ≡ 4 ∷ []) × LeftAt left next
-opening-next {left} {here} {next} l x h =
-    let e = x .kind-is in
-    elim (l-head (rw (x .split .front) at (l .left-side))) [
-      | h-symbol t z s ↦ never (let y = symbol-kind _ t in omega arith)
-      | h-open z s ↦ (z, record { depth = suc (l .depth); inside = more-left s; left-side = s })
-      | h-close d z s ↦ never (let y : kind (x .e) ≡ 5 = ap kind z in omega arith)
-      | h-variable {k} {n} v z s ↦ never (let y : kind (x .e) ≡ k = ap kind z in let o = v .low in omega arith)
-    ]
-  where
-    not-over : {d : ℕ} {es : List (List ℕ)} → LeftSide (suc d) es → es ≡ [] → ⊥
-    not-over (l-symbol t z s) y = never (cc)
-    not-over (l-open s) y = never (cc)
-    not-over (l-close s) y = never (cc)
-    not-over (l-variable v s) y = never (cc)
-
-    more-left : LeftSide (suc (l .depth)) (elements (drop next left)) → next < length left
-    more-left s =
-        elim (see (leb (length left) next)) [
-          | is-true z ↦ absurd (not-over s (nothing-left left next (leb-true _ _ z)))
-          | is-false z ↦ leb-false _ _ z
-        ]
 
 -- THE LOOP OVER A LEFT SIDE
 
@@ -181,12 +75,6 @@ pub going-start : {left : List ℕ} {i : ℕ} {arg : List ℕ} {at : ℕ} {b : L
 going-start {b = b} {m} r = record { on = omega arith; ready = r; same = refl; kept = kept-self m b; more = λ v l w. w }
 
 module _ {left : List ℕ} {i : ℕ} {arg : List ℕ} {at : ℕ} {b₀ : List ℕ} {m₀ here place : ℕ} {b : List ℕ} {m : ℕ} (g : Going left i arg at b₀ m₀ here place b m) where
-  xs : List (List ℕ)
-  xs = elements (drop place arg)
-
-  env : Env
-  env = envOf arg b m
-
   -- the search ends where it has come to
   pub going-lost : {b′ : List ℕ} → seek (elements (drop here left)) (elements (drop place arg)) (envOf arg b m) ≡ none → Kept m b b′
       → Outcome arg b₀ m₀ b′ (seek (elements (drop i left)) (elements (drop at arg)) (envOf arg b₀ m₀)) false

@@ -7,35 +7,23 @@ use Prim.Native.Nat.{ℕ, _+_, _-_, _≤_, _<_}
 use native.Mathlib.Omega.{arith}
 use native.Mathlib.Nat.{zero-add, suc-add}
 use lib.ListN.{length, drop}
-use Rattle.meaning.specs.Elements.{kind, elements, join}
+use Rattle.meaning.specs.Elements.{elements}
 use Rattle.meaning.specs.Matching.{Terms, stop, symbol, bracket, Stands, role, keep, firstOf, fronts, seek}
 use Rattle.meaning.proofs.Truth.{never, is-none, is-some, seeO}
 use Rattle.meaning.proofs.Trying.{tries, tries-start, tries-first, tries-term, tries-next, tries-stop, last-takes-all}
 use Rattle.kinds.specs.Slots.{slotOf, within, joined}
 use Rattle.elements.specs.declared.Found.the-variants.{At, Nothing}
 use Rattle.elements.specs.Reading.{Splits, Balanced, Level, TermEnd, term-at, no-term}
-use Rattle.elements.proofs.Places.{symbol-kind, none-left, split-join, split-nothing, split-size}
+use Rattle.elements.proofs.Places.{none-left, split-join, split-nothing}
 use Rattle.elements.proofs.Levels.{level-terms, behind-terms}
-use Rattle.matching.specs.Binding.{envOf, Variable, LeftSide, l-end, Table, Ready, Kept, Outcome, lost, won, FreshE, noting, Settled, as-before, noted}
-use Rattle.matching.specs.declared.Ahead.{Ahead}
-use Rattle.matching.specs.Foresight.{Barred, Sound, Ending, Skipped, at-once, term-more, NextEnd, ends-at, never-ends}
-use Rattle.matching.proofs.Slots.{slot-small, env-same, bind-noted, table-noted, table-kept, noting-kept, kept-self, kept-more, within-more}
+use Rattle.settling.specs.Values.{envOf, Variable, LeftSide, l-end, Table, Ready, Kept, FreshE, noting, Settled, as-before, noted}
+use Rattle.matching.specs.Binding.{Outcome, lost, won}
+use Rattle.foreseeing.specs.declared.Ahead.{Ahead}
+use Rattle.foreseeing.specs.Foresight.{Barred, Sound, Ending, Skipped, at-once, term-more, NextEnd, ends-at, never-ends}
+use Rattle.settling.proofs.Slots.{slot-small, env-same, bind-noted, table-noted, table-kept, noting-kept, kept-self, kept-more, within-more}
+use Rattle.foreseeing.proofs.Foreseen.{term-less}
 use Rattle.matching.proofs.Going.{terms-proper, keep-bind}
-use Rattle.matching.proofs.Sides.{part-elements}
-
-long : (e : List ℕ) (es : List (List ℕ)) → 1 ≤ kind e → 0 < length (join (e ∷ es))
-unfolding join
-long [] es h = never (omega arith)
-long (k ∷ bs) es h = omega arith
-
-some-bytes : {v : List (List ℕ)} → Terms 1 v → 0 < length (join v)
-unfolding join
-some-bytes (symbol {e} {es} h r) = long e es (symbol-kind e h .0)
-some-bytes (bracket r r′ e) = omega arith
-
--- a term moves on
-pub term-less : {arg : List ℕ} {end next : ℕ} → TermEnd arg end (At next) → (end < next) × (next ≤ length arg)
-term-less (term-at {v} t q) = (omega (arith, split-size q, some-bytes t, q .on), q .fits)
+use Rattle.settling.proofs.Sides.{part-elements}
 
 -- terms after terms
 terms-more : {m n : ℕ} {v u : List (List ℕ)} → Terms m v → Terms n u → Terms (m + n) (v ++ u)

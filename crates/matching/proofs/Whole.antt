@@ -10,8 +10,9 @@ use Rattle.meaning.specs.Matching.{free, seek}
 use Rattle.meaning.proofs.Truth.{never, is-true, is-false, see, same-eq}
 use Rattle.meaning.proofs.Searching.{seek-binds, sure-free}
 use Rattle.kinds.specs.Slots.{slotOf, within}
-use Rattle.matching.specs.Binding.{envOf, Variable, Ready, Outcome, lost, won, Starting, Bound, Matched, no-fit, first-fit}
-use Rattle.matching.proofs.Slots.{env-settled, env-open, env-free, table-empty}
+use Rattle.settling.specs.Values.{envOf, Variable, Ready}
+use Rattle.matching.specs.Binding.{Outcome, lost, won, Starting, Bound, Matched, no-fit, first-fit}
+use Rattle.settling.proofs.Slots.{env-settled, env-open, env-free, table-empty}
 use Rattle.matching.proofs.Going.{no-plain}
 
 pub starting : {left arg b : List ℕ} → Starting left arg b → Ready left 0 arg 0 b 0

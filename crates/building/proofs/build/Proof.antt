@@ -6,10 +6,6 @@ use Rattle.building.proofs.Filling.{Building, build-room, building-more
 use borrow.Author.Needs.{needs}
 use Rattle.building.proofs.build.Statement.{statement}
 use Rattle.building.proofs.build.Tie as tie
-use Rattle.building.proofs.build.Reads as reads
-use Rattle.building.proofs.build.Lts as lts
-use Rattle.building.proofs.put_element.Reads as put-element-reads
-use Rattle.kinds.proofs.body_of.Reads as body-of-reads
 
 abbrev Inv-loop : tie.InvT-loop
 Inv-loop program from to arg binds out₀ start at₀ n₀ out at n = Building program from to arg binds out₀ start out at n
@@ -17,43 +13,33 @@ Inv-loop program from to arg binds out₀ start at₀ n₀ out at n = Building p
 abbrev μ-loop : tie.MeasureT-loop
 μ-loop program from to arg binds out₀ start at₀ n₀ out at n = to - at
 
--- src/lib.rt:174:5
 loop-holds : tie.Need-loop-holds Inv-loop μ-loop
 loop-holds c = record { upto = c .before .before .before .before .pre .0 .0; whole = c .before .before .before .before .pre .1 .0; ready = c .before .before .before .before .pre .1 .1 .0; long = refl; n-so = refl; so = refl }
 
--- src/lib.rt:175:38
 shared-slice-read-body-of : tie.Need-shared-slice-read-body-of Inv-loop μ-loop
 shared-slice-read-body-of c = search needs
 
--- src/lib.rt:175:23
 body-of-requires : tie.Need-body-of-requires Inv-loop μ-loop
 body-of-requires c κs = search needs
 
--- src/lib.rt:175:19
 add-len : tie.Need-add-len Inv-loop μ-loop
 add-len c = search needs
 
--- src/lib.rt:176:9
 put-element-requires : tie.Need-put-element-requires Inv-loop μ-loop
 put-element-requires c κs = let i = c .before .before .before .before .loop .inv in let w = walk _ _ _ _ _ (c .before .before .before .before .before .before .before .before .before .pre .0 .1) (c .before .before .before .loop-test .taken) (i .whole) (i .ready) _ (ap (λ n. 1 + n) (c .before .body-of .ensures .0)) in (w .known, (c .before .before .before .before .before .before .before .before .before .pre .1 .1 .1 .0, build-room _ _ _ _ _ _ _ _ _ _ i _ w (c .before .before .before .before .before .before .before .before .before .pre .1 .1 .1 .1)))
 
--- src/lib.rt:177:9
 add-at : tie.Need-add-at Inv-loop μ-loop
 add-at c = let i = c .before .before .before .before .before .before .before .loop .inv in let w = walk _ _ _ _ _ (c .before .before .before .before .before .before .before .before .before .before .before .before .pre .0 .1) (c .before .before .before .before .before .before .loop-test .taken) (i .whole) (i .ready) _ (ap (λ n. 1 + n) (c .before .before .before .before .body-of .ensures .0)) in let k = w .within in omega arith
 
--- src/lib.rt:174:5
 loop-less : tie.Need-loop-less Inv-loop μ-loop
 loop-less c = let i = c .before .before .before .before .before .before .before .loop .inv in let w = walk _ _ _ _ _ (c .before .before .before .before .before .before .before .before .before .before .before .before .pre .0 .1) (c .before .before .before .before .before .before .loop-test .taken) (i .whole) (i .ready) _ (ap (λ n. 1 + n) (c .before .before .before .before .body-of .ensures .0)) in let k = w .within in let s = w .some in omega arith
 
--- src/lib.rt:174:5
 loop-again : tie.Need-loop-again Inv-loop μ-loop
 loop-again c = let i = c .before .before .before .before .before .before .before .loop .inv in let w = walk _ _ _ _ _ (c .before .before .before .before .before .before .before .before .before .before .before .before .pre .0 .1) (c .before .before .before .before .before .before .loop-test .taken) (i .whole) (i .ready) _ (ap (λ n. 1 + n) (c .before .before .before .before .body-of .ensures .0)) in let u = c .before .before .put-element .ensures in building-more _ _ _ _ _ _ _ _ _ _ i _ w _ _ (u .0) (u .1) (c .before .before .put-element .kept .1 .1 .1 .1 .1 .0)
 
--- src/lib.rt:156:1
 same-length : tie.Need-same-length Inv-loop μ-loop
 same-length c = c .before .loop .inv .long
 
--- src/lib.rt:156:1
 returns : tie.Need-returns Inv-loop μ-loop
 returns c = built _ _ _ _ _ _ _ _ _ _ (c .before .loop .inv) (c .loop-test .left) (c .before .before .before .before .before .before .pre .0 .1)
 

@@ -1,27 +1,18 @@
-use mathlib.Core.Path.{refl, sym, _∙_}
 use native.Mathlib.Omega.{arith}
-use Rattle.building.proofs.Spans.{pour-long}
 use Rattle.building.proofs.Placing.{two-built}
 use borrow.Author.Needs.{needs}
 use Rattle.building.proofs.fill.Statement.{statement}
 use Rattle.building.proofs.fill.Tie as tie
-use Rattle.building.proofs.fill.Reads as reads
-use Rattle.building.proofs.fill.Lts as lts
-use Rattle.building.proofs.build.Reads as build-reads
 
--- src/lib.rt:239:9
 build-requires : tie.Need-build-requires
 build-requires c κs = let a = c .before .before .before .before .before .pre .0 in let b = c .before .before .before .before .before .pre .1 .0 in let k = c .before .before .before .before .before .pre .1 .1 .1 in ((a .0, a .1), (b .0, (b .1, (k .0, (let z = k .1 in omega arith)))))
 
--- src/lib.rt:240:9
 build-requires-2 : tie.Need-build-requires-2
 build-requires-2 c κs = let a = c .before .before .before .before .before .before .before .before .before .pre .0 in let b = c .before .before .before .before .before .before .before .before .before .pre .1 .1 .0 in let k = c .before .before .before .before .before .before .before .before .before .pre .1 .1 .1 in ((a .2, a .3), (b .0, (b .1, (k .0, (let z = k .1 in let e = c .before .before .before .build .ensures .0 in let l = c .before .before .before .build .kept .1 .1 .1 .1 .1 .0 in omega arith)))))
 
--- src/lib.rt:223:1
 same-length : tie.Need-same-length
 same-length c = search needs
 
--- src/lib.rt:223:1
 returns : tie.Need-returns
 returns c = two-built _ _ _ _ _ _ _ _ (c .before .before .before .before .before .before .before .before .before .before .before .before .pre .1 .0 .1) (c .before .before .before .before .before .before .before .before .before .before .before .before .pre .1 .1 .0 .1) (c .before .before .before .before .before .before .build .ensures .0) (c .before .before .before .before .before .before .build .ensures .1) (c .before .before .build2 .ensures .0) (c .before .before .build2 .ensures .1)
 

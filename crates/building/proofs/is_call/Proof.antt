@@ -2,14 +2,10 @@ use mathlib.Core.Path.{refl}
 use Rattle.building.proofs.Filling.{is-call-yes, is-call-else}
 use Rattle.building.proofs.is_call.Statement.{statement}
 use Rattle.building.proofs.is_call.Tie as tie
-use Rattle.building.proofs.is_call.Reads as reads
-use Rattle.building.proofs.is_call.Lts as lts
 
--- src/lib.rt:35:1
 returns : tie.Need-returns
 returns c = is-call-yes _ (c .if1 .taken)
 
--- src/lib.rt:35:1
 returns-2 : tie.Need-returns-2
 returns-2 c = is-call-else _ _ (c .if1 .left) refl
 

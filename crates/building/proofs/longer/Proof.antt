@@ -3,22 +3,16 @@ use mathlib.Core.Logic.{inl, inr}
 use Rattle.building.proofs.Filling.{variable-kind}
 use Rattle.building.proofs.longer.Statement.{statement}
 use Rattle.building.proofs.longer.Tie as tie
-use Rattle.building.proofs.longer.Reads as reads
-use Rattle.building.proofs.longer.Lts as lts
 
--- src/lib.rt:71:9
 returns : tie.Need-returns
 returns c = inl refl
 
--- src/lib.rt:74:9
 returns-2 : tie.Need-returns-2
 returns-2 c = inl refl
 
--- src/lib.rt:77:9
 returns-3 : tie.Need-returns-3
 returns-3 c = inl refl
 
--- src/lib.rt:67:1
 returns-4 : tie.Need-returns-4
 returns-4 c = inr (variable-kind _ (c .before .before .before .if1 .left) (c .before .before .if2 .left), refl)
 

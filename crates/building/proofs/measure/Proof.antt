@@ -1,19 +1,13 @@
-use mathlib.Core.Path.{refl, ap, _∙_}
+use mathlib.Core.Path.{ap}
 use mathlib.Core.List.{List}
 use Prim.Native.Nat.{ℕ, _+_, _-_, _≤_}
 use native.Mathlib.Omega.{arith}
 use lib.ListN.{length}
-use Rattle.building.proofs.Spans.{walk, span-short}
+use Rattle.building.proofs.Spans.{walk}
 use Rattle.building.proofs.Filling.{Measuring, measuring-start, measured-no, measuring-more, measured-all}
 use borrow.Author.Needs.{needs}
 use Rattle.building.proofs.measure.Statement.{statement}
 use Rattle.building.proofs.measure.Tie as tie
-use Rattle.building.proofs.measure.Reads as reads
-use Rattle.building.proofs.measure.Lts as lts
-use Rattle.building.proofs.counted.Reads as counted-reads
-use Rattle.building.proofs.longer.Reads as longer-reads
-use Rattle.building.proofs.span_of.Reads as span-of-reads
-use Rattle.kinds.proofs.body_of.Reads as body-of-reads
 
 abbrev Inv-loop : tie.InvT-loop
 Inv-loop program from to binds limit at₀ size₀ calls₀ best₀ at size calls best = (f : List ℕ) × (length f ≤ 65536) × Measuring program from to f binds limit at size calls (best .at)
@@ -21,59 +15,45 @@ Inv-loop program from to binds limit at₀ size₀ calls₀ best₀ at size call
 abbrev μ-loop : tie.MeasureT-loop
 μ-loop program from to binds limit at₀ size₀ calls₀ best₀ at size calls best = to - at
 
--- src/lib.rt:93:5
 loop-holds : tie.Need-loop-holds Inv-loop μ-loop
 loop-holds c = let g = c .before .before .pre .0 in (g .arg, g .short, measuring-start _ _ _ _ _ _ (g .upto) (c .before .before .pre .1 .0) (g .ready))
 
--- src/lib.rt:94:20
 shared-slice-read-kind : tie.Need-shared-slice-read-kind Inv-loop μ-loop
 shared-slice-read-kind c = search needs
 
--- src/lib.rt:95:23
 body-of-requires : tie.Need-body-of-requires Inv-loop μ-loop
 body-of-requires c κs = search needs
 
--- src/lib.rt:95:19
 add-len : tie.Need-add-len Inv-loop μ-loop
 add-len c = search needs
 
--- src/lib.rt:96:13
 span-of-requires : tie.Need-span-of-requires Inv-loop μ-loop
 span-of-requires c κs = let i = c .before .before .before .loop .inv .2 in let w = walk _ _ _ _ _ (c .before .before .before .before .before .before .pre .0 .fits) (c .before .before .loop-test .taken) (i .whole) (i .ready) _ (ap (λ n. 1 + n) (c .body-of .ensures .0)) in (record { arg = c .before .before .before .loop .inv .0; known = w .known }, c .before .before .before .before .before .before .pre .1 .1 .0)
 
--- src/lib.rt:97:12
 sub-if1 : tie.Need-sub-if1 Inv-loop μ-loop
 sub-if1 c = let i = c .before .before .before .before .loop .inv .2 in i .room
 
--- src/lib.rt:98:13
 returns : tie.Need-returns Inv-loop μ-loop
 returns c = let i = c .before .before .before .before .before .loop .inv .2 in let w = walk _ _ _ _ _ (c .before .before .before .before .before .before .before .before .pre .0 .fits) (c .before .before .before .before .loop-test .taken) (i .whole) (i .ready) _ (ap (λ n. 1 + n) (c .before .before .body-of .ensures .0)) in measured-no _ _ _ _ _ _ _ _ _ _ i _ w (rw (← c .before .span-of .ensures) (c .if1 .taken))
 
--- src/lib.rt:105:9
 counted-requires : tie.Need-counted-requires Inv-loop μ-loop
 counted-requires c κs = let i = c .before .before .before .before .before .loop .inv .2 in let k = i .few in let t = c .before .before .before .before .loop-test .taken in let f = c .before .before .before .before .before .before .before .before .pre .0 .fits in let s = c .before .before .before .before .before .before .before .before .pre .1 .1 .1 in omega arith
 
--- src/lib.rt:106:9
 longer-requires : tie.Need-longer-requires Inv-loop μ-loop
 longer-requires c κs = search needs
 
--- src/lib.rt:107:9
 add-size : tie.Need-add-size Inv-loop μ-loop
 add-size c = search needs
 
--- src/lib.rt:108:9
 add-at : tie.Need-add-at Inv-loop μ-loop
 add-at c = let i = c .before .before .before .before .before .before .before .loop .inv .2 in let w = walk _ _ _ _ _ (c .before .before .before .before .before .before .before .before .before .before .pre .0 .fits) (c .before .before .before .before .before .before .loop-test .taken) (i .whole) (i .ready) _ (ap (λ n. 1 + n) (c .before .before .before .before .body-of .ensures .0)) in let k = w .within in omega arith
 
--- src/lib.rt:93:5
 loop-less : tie.Need-loop-less Inv-loop μ-loop
 loop-less c = let i = c .before .before .before .before .before .before .before .loop .inv .2 in let w = walk _ _ _ _ _ (c .before .before .before .before .before .before .before .before .before .before .pre .0 .fits) (c .before .before .before .before .before .before .loop-test .taken) (i .whole) (i .ready) _ (ap (λ n. 1 + n) (c .before .before .before .before .body-of .ensures .0)) in let k = w .within in let s = w .some in omega arith
 
--- src/lib.rt:93:5
 loop-again : tie.Need-loop-again Inv-loop μ-loop
 loop-again c = let i = c .before .before .before .before .before .before .before .loop .inv .2 in let w = walk _ _ _ _ _ (c .before .before .before .before .before .before .before .before .before .before .pre .0 .fits) (c .before .before .before .before .before .before .loop-test .taken) (i .whole) (i .ready) _ (ap (λ n. 1 + n) (c .before .before .before .before .body-of .ensures .0)) in (c .before .before .before .before .before .before .before .loop .inv .0, c .before .before .before .before .before .before .before .loop .inv .1, rw (c .before .before .before .span-of .ensures) (measuring-more _ _ _ _ _ _ _ _ _ _ i _ w _ _ (c .before .counted .ensures) (c .longer .ensures) (rw (← c .before .before .before .span-of .ensures) (c .before .before .if1 .left))))
 
--- src/lib.rt:83:1
 returns-2 : tie.Need-returns-2 Inv-loop μ-loop
 returns-2 c = measured-all _ _ _ _ _ _ _ _ _ _ (c .before .loop .inv .2) (c .loop-test .left) (c .before .before .before .before .pre .0 .fits)
 

@@ -1,18 +1,12 @@
-use mathlib.Core.Path.{refl, ap, _∙_}
+use mathlib.Core.Path.{refl, ap}
 use mathlib.Core.List.{List}
-use Prim.Native.Nat.{ℕ, _+_, _-_, _≤_}
+use Prim.Native.Nat.{ℕ, _+_, _-_}
 use native.Mathlib.Omega.{arith}
-use lib.ListN.{length}
 use Rattle.building.proofs.Spans.{walk}
 use Rattle.building.proofs.Filling.{Noting, on-room, note-room, noting-more, noted, call-span}
 use borrow.Author.Needs.{needs}
 use Rattle.building.proofs.note.Statement.{statement}
 use Rattle.building.proofs.note.Tie as tie
-use Rattle.building.proofs.note.Reads as reads
-use Rattle.building.proofs.note.Lts as lts
-use Rattle.building.proofs.note_one.Reads as note-one-reads
-use Rattle.building.proofs.span_of.Reads as span-of-reads
-use Rattle.kinds.proofs.body_of.Reads as body-of-reads
 
 abbrev Inv-loop : tie.InvT-loop
 Inv-loop program from to binds start calls₀ first i₀ at₀ k₀ calls i at k = (f : List ℕ) × Noting program from to f binds start calls₀ first calls i at k
@@ -20,51 +14,39 @@ Inv-loop program from to binds start calls₀ first i₀ at₀ k₀ calls i at k
 abbrev μ-loop : tie.MeasureT-loop
 μ-loop program from to binds start calls₀ first i₀ at₀ k₀ calls i at k = to - i
 
--- src/lib.rt:320:5
 loop-holds : tie.Need-loop-holds Inv-loop μ-loop
 loop-holds c = let g = c .before .before .before .pre .0 in (g .arg, record { upto = g .upto; whole = c .before .before .before .pre .1 .0; ready = g .ready; reach = refl; index = refl; long = refl; so = refl })
 
--- src/lib.rt:321:20
 shared-slice-read-kind : tie.Need-shared-slice-read-kind Inv-loop μ-loop
 shared-slice-read-kind c = search needs
 
--- src/lib.rt:322:23
 body-of-requires : tie.Need-body-of-requires Inv-loop μ-loop
 body-of-requires c κs = search needs
 
--- src/lib.rt:322:19
 add-len : tie.Need-add-len Inv-loop μ-loop
 add-len c = search needs
 
--- src/lib.rt:323:9
 note-one-requires : tie.Need-note-one-requires Inv-loop μ-loop
 note-one-requires c κs = let i = c .before .before .before .before .loop .inv .1 in let w = walk _ _ _ _ _ (c .before .before .before .before .before .before .before .before .pre .0 .fits) (c .before .before .before .loop-test .taken) (i .whole) (i .ready) _ (ap (λ n. 1 + n) (c .before .body-of .ensures .0)) in let q = c .before .before .before .before .before .before .before .before .pre .1 .1 .1 in λ z. note-room _ _ _ _ _ _ _ _ _ _ _ _ i _ w (q .0) (q .1) z (call-span _ _ _ _ _ _ w z)
 
--- src/lib.rt:324:15
 span-of-requires : tie.Need-span-of-requires Inv-loop μ-loop
 span-of-requires c κs = let i = c .before .before .before .before .before .before .before .loop .inv .1 in let w = walk _ _ _ _ _ (c .before .before .before .before .before .before .before .before .before .before .before .pre .0 .fits) (c .before .before .before .before .before .before .loop-test .taken) (i .whole) (i .ready) _ (ap (λ n. 1 + n) (c .before .before .before .before .body-of .ensures .0)) in (record { arg = c .before .before .before .before .before .before .before .loop .inv .0; known = w .known }, c .before .before .before .before .before .before .before .before .before .before .before .pre .1 .1 .0 .0)
 
--- src/lib.rt:324:9
 add-at : tie.Need-add-at Inv-loop μ-loop
 add-at c = let i = c .before .before .before .before .before .before .before .before .loop .inv .1 in let w = walk _ _ _ _ _ (c .before .before .before .before .before .before .before .before .before .before .before .before .pre .0 .fits) (c .before .before .before .before .before .before .before .loop-test .taken) (i .whole) (i .ready) _ (ap (λ n. 1 + n) (c .before .before .before .before .before .body-of .ensures .0)) in let q = on-room _ _ _ _ _ _ _ _ _ _ _ _ i _ w (c .before .before .before .before .before .before .before .before .before .before .before .before .pre .1 .1 .1 .0) in let e = c .span-of .ensures in omega arith
 
--- src/lib.rt:325:9
 add-i : tie.Need-add-i Inv-loop μ-loop
 add-i c = let i = c .before .before .before .before .before .before .before .before .loop .inv .1 in let w = walk _ _ _ _ _ (c .before .before .before .before .before .before .before .before .before .before .before .before .pre .0 .fits) (c .before .before .before .before .before .before .before .loop-test .taken) (i .whole) (i .ready) _ (ap (λ n. 1 + n) (c .before .before .before .before .before .body-of .ensures .0)) in let k = w .within in omega arith
 
--- src/lib.rt:320:5
 loop-less : tie.Need-loop-less Inv-loop μ-loop
 loop-less c = let i = c .before .before .before .before .before .before .before .before .loop .inv .1 in let w = walk _ _ _ _ _ (c .before .before .before .before .before .before .before .before .before .before .before .before .pre .0 .fits) (c .before .before .before .before .before .before .before .loop-test .taken) (i .whole) (i .ready) _ (ap (λ n. 1 + n) (c .before .before .before .before .before .body-of .ensures .0)) in let k = w .within in let s = w .some in omega arith
 
--- src/lib.rt:320:5
 loop-again : tie.Need-loop-again Inv-loop μ-loop
 loop-again c = let i = c .before .before .before .before .before .before .before .before .loop .inv .1 in let w = walk _ _ _ _ _ (c .before .before .before .before .before .before .before .before .before .before .before .before .pre .0 .fits) (c .before .before .before .before .before .before .before .loop-test .taken) (i .whole) (i .ready) _ (ap (λ n. 1 + n) (c .before .before .before .before .before .body-of .ensures .0)) in let u = c .before .before .before .note-one .ensures in (c .before .before .before .before .before .before .before .before .loop .inv .0, rw (c .span-of .ensures) (noting-more _ _ _ _ _ _ _ _ _ _ _ _ i _ w _ _ (u .0) (u .1)))
 
--- src/lib.rt:302:1
 same-length : tie.Need-same-length Inv-loop μ-loop
 same-length c = c .before .loop .inv .1 .long
 
--- src/lib.rt:302:1
 returns : tie.Need-returns Inv-loop μ-loop
 returns c = noted _ _ _ _ _ _ _ _ _ _ _ _ (c .before .loop .inv .1) (c .loop-test .left) (c .before .before .before .before .before .pre .0 .fits)
 

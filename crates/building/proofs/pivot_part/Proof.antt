@@ -3,55 +3,40 @@ use Rattle.building.proofs.Placing.{parted-end, turn, inside, step, two
 use borrow.Author.Needs.{needs}
 use Rattle.building.proofs.pivot_part.Statement.{statement}
 use Rattle.building.proofs.pivot_part.Tie as tie
-use Rattle.building.proofs.pivot_part.Reads as reads
-use Rattle.building.proofs.pivot_part.Lts as lts
-use Rattle.kinds.proofs.slot.Reads as slot-reads
 
--- src/lib.rt:202:9
 returns : tie.Need-returns
 returns c = λ arg from piv w up fits r. rw (c .if1 .taken) (parted-end _ _ _ _ _ w up fits r)
 
--- src/lib.rt:208:28
 shared-slice-read-slot : tie.Need-shared-slice-read-slot
 shared-slice-read-slot c = let P = c .before .before .before .before .pre .0 in let g = P .given in let k = inside _ _ _ _ _ _ (turn (P .pivot-is) (c .before .if1 .left)) (P .whole) (g .upto) (g .fits) (g .ready) in let z = g .fits in omega arith
 
--- src/lib.rt:208:52
 add-slot : tie.Need-add-slot
 add-slot c = let P = c .before .before .before .before .pre .0 in let g = P .given in let k = inside _ _ _ _ _ _ (turn (P .pivot-is) (c .before .if1 .left)) (P .whole) (g .upto) (g .fits) (g .ready) in let z = g .fits in search needs
 
--- src/lib.rt:208:44
 shared-slice-read-slot-2 : tie.Need-shared-slice-read-slot-2
 shared-slice-read-slot-2 c = let P = c .before .before .before .before .before .pre .0 in let g = P .given in let T = turn (P .pivot-is) (c .before .before .if1 .left) in let k = step _ _ _ _ _ _ T (P .whole) (g .upto) (g .fits) (g .ready) .within in let t = two _ _ _ _ _ _ T (P .whole) (g .upto) (g .fits) (g .ready) in let z = g .fits in omega arith
 
--- src/lib.rt:208:9
 slot-requires : tie.Need-slot-requires
 slot-requires c κs = let P = c .before .before .before .before .before .pre .0 in let g = P .given in let T = turn (P .pivot-is) (c .before .before .if1 .left) in let s = sorts _ _ _ _ _ _ T (P .whole) (g .upto) (g .fits) (g .ready) in let l = value _ _ _ _ _ _ T (P .whole) (g .upto) (g .fits) (g .ready) .low in (s .0, s .1, omega arith)
 
--- src/lib.rt:210:15
 mul-t9 : tie.Need-mul-t9
 mul-t9 c = search needs
 
--- src/lib.rt:210:15
 shared-slice-read-t13 : tie.Need-shared-slice-read-t13
 shared-slice-read-t13 c = search needs
 
--- src/lib.rt:211:19
 add-t14 : tie.Need-add-t14
 add-t14 c = search needs
 
--- src/lib.rt:211:13
 mul-t15 : tie.Need-mul-t15
 mul-t15 c = search needs
 
--- src/lib.rt:211:13
 shared-slice-read-t17 : tie.Need-shared-slice-read-t17
 shared-slice-read-t17 c = search needs
 
--- src/lib.rt:212:15
 add-t18 : tie.Need-add-t18
 add-t18 c = let P = c .before .before .before .before .before .before .before .before .pre .0 in let g = P .given in let T = turn (P .pivot-is) (c .before .before .before .before .before .if1 .left) in let k = step _ _ _ _ _ _ T (P .whole) (g .upto) (g .fits) (g .ready) .within in let t = two _ _ _ _ _ _ T (P .whole) (g .upto) (g .fits) (g .ready) in let z = g .fits in omega arith
 
--- src/lib.rt:196:1
 returns-2 : tie.Need-returns-2
 returns-2 c = λ arg from piv w up fits r. rw (c .before .before .slot .ensures .0) (parted-at _ _ _ _ _ _ (turn piv (c .before .before .before .before .before .if1 .left)) w up fits r)
 

@@ -1,57 +1,39 @@
 use Rattle.building.proofs.Placing.{put-in-all}
-use mathlib.Core.Path.{_≡_, refl}
-use Prim.Native.Nat.{_+_, _-_}
-use native.Mathlib.Omega.{arith}
-use Rattle.building.proofs.Placing.{three-placed}
+use Prim.Native.Nat.{_-_}
 use borrow.Author.Needs.{needs}
 use Rattle.building.proofs.put_in.Statement.{statement}
 use Rattle.building.proofs.put_in.Tie as tie
-use Rattle.building.proofs.put_in.Reads as reads
-use Rattle.building.proofs.put_in.Lts as lts
-use Rattle.building.proofs.shift.Reads as shift-reads
-use Rattle.moving.proofs.copy.Reads as copy-reads
 
--- src/lib.rt:249:25
 sub-behind : tie.Need-sub-behind
 sub-behind c = search needs
 
--- src/lib.rt:249:18
 sub-behind-2 : tie.Need-sub-behind-2
 sub-behind-2 c = search needs
 
--- src/lib.rt:250:24
 sub-shift : tie.Need-sub-shift
 sub-shift c = search needs
 
--- src/lib.rt:250:5
 shift-requires : tie.Need-shift-requires
 shift-requires c κs = search needs
 
--- src/lib.rt:251:28
 sub-copy : tie.Need-sub-copy
 sub-copy c = search needs
 
--- src/lib.rt:251:5
 copy-requires : tie.Need-copy-requires
 copy-requires c κs = search needs
 
--- src/lib.rt:252:38
 sub-copy-2 : tie.Need-sub-copy-2
 sub-copy-2 c = search needs
 
--- src/lib.rt:252:38
 sub-copy-3 : tie.Need-sub-copy-3
 sub-copy-3 c = search needs
 
--- src/lib.rt:252:5
 copy-requires-2 : tie.Need-copy-requires-2
 copy-requires-2 c κs = search needs
 
--- src/lib.rt:245:1
 same-length : tie.Need-same-length
 same-length c = search needs
 
--- src/lib.rt:245:1
 returns : tie.Need-returns
 returns c = let p = c .before .before .before .before .before .before .before .before .before .before .before .before .before .before .pre in put-in-all _ _ _ _ _ _ _ (p .0) (p .1) (p .2) (p .3) (p .4) _ _ _ (c .before .before .before .before .before .before .before .before .before .before .shift .ensures) (c .before .before .before .before .before .before .copy .ensures) (c .before .before .copy2 .ensures)
 

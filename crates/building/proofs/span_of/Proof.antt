@@ -5,59 +5,43 @@ use Rattle.building.proofs.Spans.{span-low, span-high, span-var}
 use borrow.Author.Needs.{needs}
 use Rattle.building.proofs.span_of.Statement.{statement}
 use Rattle.building.proofs.span_of.Tie as tie
-use Rattle.building.proofs.span_of.Reads as reads
-use Rattle.building.proofs.span_of.Lts as lts
-use Rattle.kinds.proofs.slot.Reads as slot-reads
 
--- src/lib.rt:47:16
 shared-slice-read-kind : tie.Need-shared-slice-read-kind
 shared-slice-read-kind c = search needs
 
--- src/lib.rt:49:9
 returns : tie.Need-returns
 returns c = span-low _ _ _ _ _ (c .before .before .before .before .pre .0 .known) _ refl (c .if1 .taken)
 
--- src/lib.rt:52:9
 returns-2 : tie.Need-returns-2
 returns-2 c = span-high _ _ _ _ _ (c .before .before .before .before .before .pre .0 .known) _ refl (c .if2 .taken)
 
--- src/lib.rt:54:42
 add-slot : tie.Need-add-slot
 add-slot c = search needs
 
--- src/lib.rt:54:34
 shared-slice-read-slot : tie.Need-shared-slice-read-slot
 shared-slice-read-slot c = var-next _ _ _ _ _ (c .before .before .before .before .before .before .pre .0 .known) _ refl (c .before .before .if1 .left) (c .before .if2 .left)
 
--- src/lib.rt:54:9
 slot-requires : tie.Need-slot-requires
 slot-requires c κs = let s = slot _ _ _ _ _ (c .before .before .before .before .before .before .pre .0 .known) _ _ refl (c .before .before .if1 .left) (c .before .if2 .left) refl in let l = s .low in (c .before .before .if1 .left, c .before .if2 .left, omega arith)
 
--- src/lib.rt:55:11
 add-result : tie.Need-add-result
 add-result c = search needs
 
--- src/lib.rt:55:5
 mul-result : tie.Need-mul-result
 mul-result c = search needs
 
--- src/lib.rt:55:5
 shared-slice-read-result : tie.Need-shared-slice-read-result
 shared-slice-read-result c = search needs
 
--- src/lib.rt:55:24
 mul-result-2 : tie.Need-mul-result-2
 mul-result-2 c = search needs
 
--- src/lib.rt:55:24
 shared-slice-read-result-2 : tie.Need-shared-slice-read-result-2
 shared-slice-read-result-2 c = search needs
 
--- src/lib.rt:55:5
 sub-result : tie.Need-sub-result
 sub-result c = rw (c .before .before .slot .ensures .0) (slot _ _ _ _ _ (c .before .before .before .before .before .before .before .before .before .pre .0 .known) _ _ refl (c .before .before .before .before .before .if1 .left) (c .before .before .before .before .if2 .left) refl .up)
 
--- src/lib.rt:42:1
 returns-3 : tie.Need-returns-3
 returns-3 c = rw (c .before .before .slot .ensures .0) (span-var _ _ _ _ _ (c .before .before .before .before .before .before .before .before .before .pre .0 .known) _ _ refl (c .before .before .before .before .before .if1 .left) (c .before .before .before .before .if2 .left) refl)
 

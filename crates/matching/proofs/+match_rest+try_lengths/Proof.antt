@@ -1,6 +1,8 @@
-use Rattle.matching.proofs.Lengths.{Trying, trying-start, takes-all, trying-long, trying-level, trying-ready, trying-found, trying-on, trying-over, trying-next, trying-barred, term-less, skipped-on}
-use Rattle.matching.proofs.Going.{left-proper, next-here, Going, going-start, going-lost, going-ends, going-over, going-left, single-here, fresh-ready, fresh-seek, going-stuck, going-on}
-use Rattle.matching.proofs.Slots.{kept-self}
+use Rattle.matching.proofs.Lengths.{Trying, trying-start, takes-all, trying-long, trying-level, trying-ready, trying-found, trying-on, trying-over, trying-next, trying-barred, skipped-on}
+use Rattle.foreseeing.proofs.Foreseen.{term-less}
+use Rattle.settling.proofs.Next.{left-proper, next-here}
+use Rattle.matching.proofs.Going.{Going, going-start, going-lost, going-ends, going-over, going-left, single-here, fresh-ready, fresh-seek, going-stuck, going-on}
+use Rattle.settling.proofs.Slots.{kept-self}
 use lib.ListN.{length}
 use native.Mathlib.Omega.{arith}
 use Rattle.elements.proofs.Places.{proper-inside}
@@ -16,12 +18,12 @@ use Rattle.matching.proofs.try_lengths.Kinds as try-lengths-kinds
 use Rattle.matching.proofs.+match_rest+try_lengths.Lts-try_lengths as try-lengths-lts
 use Rattle.elements.proofs.Cursor.pass.Reads as pass-reads
 use Rattle.elements.proofs.term_end.Reads as term-end-reads
-use Rattle.matching.proofs.foresee.Reads as foresee-reads
-use Rattle.matching.proofs.is_fresh_e.Reads as is-fresh-e-reads
-use Rattle.matching.proofs.next_end.Reads as next-end-reads
-use Rattle.matching.proofs.only_end.Reads as only-end-reads
-use Rattle.matching.proofs.settle.Reads as settle-reads
-use Rattle.matching.proofs.slot_at.Reads as slot-at-reads
+use Rattle.foreseeing.proofs.foresee.Reads as foresee-reads
+use Rattle.settling.proofs.is_fresh_e.Reads as is-fresh-e-reads
+use Rattle.foreseeing.proofs.next_end.Reads as next-end-reads
+use Rattle.settling.proofs.only_end.Reads as only-end-reads
+use Rattle.settling.proofs.settle.Reads as settle-reads
+use Rattle.settling.proofs.slot_at.Reads as slot-at-reads
 use Rattle.matching.proofs.+match_rest+try_lengths.{statement}
 use Rattle.matching.proofs.+match_rest+try_lengths.Tie.{close}
 

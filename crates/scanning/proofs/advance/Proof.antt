@@ -1,19 +1,12 @@
 use borrow.Author.Tests.{not-true, not-false}
 use Rattle.scanning.proofs.Scan.{yes-no, Advancing, advanced, reached-open, in-field}
 use mathlib.Core.Path.{refl, _∙_}
-use mathlib.Core.Path.{refl}
 use Prim.Native.Nat.{_-_}
 use lib.ListN.{length}
 use native.Mathlib.Omega.{arith}
-use Rattle.meaning.proofs.Truth.{never}
-use Rattle.scanning.proofs.Scan.{Advancing, advanced, reached-open, in-field}
 use borrow.Author.Needs.{needs}
 use Rattle.scanning.proofs.advance.Statement.{statement}
 use Rattle.scanning.proofs.advance.Tie as tie
-use Rattle.scanning.proofs.advance.Reads as reads
-use Rattle.scanning.proofs.advance.Lts as lts
-use Rattle.scanning.proofs.next_mark.Reads as next-mark-reads
-use Rattle.scanning.proofs.pass_call.Reads as pass-call-reads
 
 abbrev Inv-loop : tie.InvT-loop
 Inv-loop field₀ calls₀ s₀ field calls s = Advancing field₀ (s₀ .lo) (s₀ .hi) calls₀ field (s .lo) (s .hi) (s .read) (s .depth) (s .top) calls
@@ -21,52 +14,40 @@ Inv-loop field₀ calls₀ s₀ field calls s = Advancing field₀ (s₀ .lo) (s
 abbrev μ-loop : tie.MeasureT-loop
 μ-loop field₀ calls₀ s₀ field calls s = length field - s .hi
 
--- src/lib.rt:104:5
 loop-holds : tie.Need-loop-holds Inv-loop μ-loop
 loop-holds c = record { good = c .before .before .pre .0; same = refl; standing = c .before .before .pre .1 .1; long = refl; room = refl }
 
--- src/lib.rt:105:13
 next-mark-requires : tie.Need-next-mark-requires Inv-loop μ-loop
 next-mark-requires c κs = let i = c .before .before .loop .inv in let p = c .before .before .before .before .before .pre in let l = i .long in let r = i .room in (i .good, ((omega arith, omega arith), i .standing))
 
--- src/lib.rt:107:13
 same-length : tie.Need-same-length Inv-loop μ-loop
 same-length c = search needs
 
--- src/lib.rt:107:13
 same-length-2 : tie.Need-same-length-2 Inv-loop μ-loop
 same-length-2 c = search needs
 
--- src/lib.rt:107:13
 returns : tie.Need-returns Inv-loop μ-loop
 returns c = let n = c .before .before .next-mark .ensures in advanced _ _ _ _ _ _ _ _ _ _ _ (c .before .before .before .before .before .loop .inv) _ _ _ _ _ _ _ (n .0) (n .1) (n .2) (n .3) (λ z. yes-no z (not-true _ (c .if1 .taken)))
 
--- src/lib.rt:110:12
 slice-read-if2 : tie.Need-slice-read-if2 Inv-loop μ-loop
 slice-read-if2 c = let n = c .before .before .before .next-mark .ensures in in-field _ _ _ _ _ _ _ _ _ _ _ (c .before .before .before .before .before .before .loop .inv) _ _ _ _ _ _ _ (n .0) (n .1) (n .2) (n .3) (not-false _ (c .before .if1 .left))
 
--- src/lib.rt:111:13
 same-length-3 : tie.Need-same-length-3 Inv-loop μ-loop
 same-length-3 c = search needs
 
--- src/lib.rt:111:13
 same-length-4 : tie.Need-same-length-4 Inv-loop μ-loop
 same-length-4 c = search needs
 
--- src/lib.rt:111:13
 returns-2 : tie.Need-returns-2 Inv-loop μ-loop
 returns-2 c = let n = c .before .before .before .before .next-mark .ensures in advanced _ _ _ _ _ _ _ _ _ _ _ (c .before .before .before .before .before .before .before .loop .inv) _ _ _ _ _ _ _ (n .0) (n .1) (n .2) (n .3) (λ _. c .if2 .taken)
 
--- src/lib.rt:113:9
 pass-call-requires : tie.Need-pass-call-requires Inv-loop μ-loop
 pass-call-requires c κs = let i = c .before .before .before .before .before .before .before .before .before .loop .inv in let p = c .before .before .before .before .before .before .before .before .before .before .before .before .pre in let l = i .long in let r = i .room in let n = c .before .before .before .before .before .before .next-mark .ensures in
     (rw (n .0, n .1) (i .good), ((omega arith, omega arith), reached-open _ _ _ _ _ _ _ _ _ _ _ i _ _ _ _ _ _ _ (n .0) (n .1) (n .2) (n .3) (not-false _ (c .before .before .before .before .if1 .left)) (c .before .before .if2 .left)))
 
--- src/lib.rt:104:5
 loop-less : tie.Need-loop-less Inv-loop μ-loop
 loop-less c = let e = c .before .before .before .before .pass-call .ensures in let n = c .before .before .before .before .before .before .before .before .before .before .before .next-mark .ensures in omega (arith, e .2, n .1, e .0 .fits, c .before .before .before .field)
 
--- src/lib.rt:104:5
 loop-again : tie.Need-loop-again Inv-loop μ-loop
 loop-again c = let i = c .before .before .before .before .before .before .before .before .before .before .before .before .before .before .loop .inv in let n = c .before .before .before .before .before .before .before .before .before .before .before .next-mark .ensures in let e = c .before .before .before .before .pass-call .ensures in
     record { good = e .0; same = e .1 ∙ rw (n .0, n .1) (i .same); standing = e .3; long = c .before .before .before .before .pass-call .kept .0 ∙ i .long; room = c .before .before .before .before .pass-call .kept .1 .1 .1 .0 ∙ i .room }

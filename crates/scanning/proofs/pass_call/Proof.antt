@@ -4,63 +4,46 @@ use mathlib.Core.Path.{refl}
 use borrow.Author.Needs.{needs}
 use Rattle.scanning.proofs.pass_call.Statement.{statement}
 use Rattle.scanning.proofs.pass_call.Tie as tie
-use Rattle.scanning.proofs.pass_call.Reads as reads
-use Rattle.scanning.proofs.pass_call.Lts as lts
-use Rattle.moving.proofs.move_down.Reads as move-down-reads
 
--- src/lib.rt:86:13
 add-n : tie.Need-add-n
 add-n c = search needs
 
--- src/lib.rt:86:13
 sub-n : tie.Need-sub-n
 sub-n c = search needs
 
--- src/lib.rt:88:5
 move-down-requires : tie.Need-move-down-requires
 move-down-requires c κs = may-move _ _ _ _ _ _ _ _ (c .before .before .before .before .pre .0) (c .before .before .before .before .pre .1 .1 .0) (c .before .before .before .before .pre .1 .1 .1)
 
--- src/lib.rt:89:21
 add-calls : tie.Need-add-calls
 add-calls c = search needs
 
--- src/lib.rt:89:21
 sub-calls : tie.Need-sub-calls
 sub-calls c = search needs
 
--- src/lib.rt:89:20
 cast-calls : tie.Need-cast-calls
 cast-calls c = let k = may-note _ _ _ _ _ _ _ _ (c .before .before .before .before .before .before .before .before .pre .0) (c .before .before .before .before .before .before .before .before .pre .1 .1 .0) (c .before .before .before .before .before .before .before .before .pre .1 .1 .1) (c .before .before .before .before .before .before .before .before .pre .1 .0 .0) in omega arith
 
--- src/lib.rt:89:5
 mul-calls : tie.Need-mul-calls
 mul-calls c = search needs
 
--- src/lib.rt:89:5
 slice-write-calls : tie.Need-slice-write-calls
 slice-write-calls c = in-notes _ _ _ _ _ _ _ _ (c .before .before .before .before .before .before .before .before .pre .0) (c .before .before .before .before .before .before .before .before .pre .1 .1 .0) (c .before .before .before .before .before .before .before .before .pre .1 .1 .1)
 
--- src/lib.rt:90:12
 add-s : tie.Need-add-s
 add-s c = search needs
 
--- src/lib.rt:91:12
 add-s-2 : tie.Need-add-s-2
 add-s-2 c = search needs
 
--- src/lib.rt:92:15
 add-s-3 : tie.Need-add-s-3
 add-s-3 c = search needs
 
--- src/lib.rt:80:1
 same-length : tie.Need-same-length
 same-length c = search needs
 
--- src/lib.rt:80:1
 same-length-2 : tie.Need-same-length-2
 same-length-2 c = search needs
 
--- src/lib.rt:80:1
 returns : tie.Need-returns
 returns c = let g = c .before .before .before .before .before .before .before .before .before .before .pre .0 in let r = c .before .before .before .before .before .before .before .before .before .before .pre .1 .1 .0 in let k = c .before .before .before .before .before .before .before .before .before .before .pre .1 .1 .1 in let e = c .before .before .before .before .before .move-down .ensures in
     (open-good _ _ _ _ _ _ _ _ g r k _ _ e refl, open-same _ _ _ _ _ _ _ _ g r k _ _ e refl, open-more _ _ _ _ _ _ _ _ g r k _ _ e refl, open-standing _ _ _ _ _ _ _ _ g r k _ _ e refl)

@@ -1,0 +1,4 @@
+pub mod Sides
+pub mod Slots
+pub mod Ends
+pub mod Next
