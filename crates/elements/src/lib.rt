@@ -93,68 +93,28 @@ fn number_of(x: Element) -> u32
     }
 }
 
-fn symbol(k: u8, n: u32) -> Element
-    requires { ⌜ (1 ≤ k) × (k ≤ 3) ⌝ }
+// The element of kind k with the number n, which is 0 where there is no body: one match, which the compiler joins with its reader's.
+fn make(k: u8, n: u32) -> Element
+    requires { ⌜ (1 ≤ k) × (k ≤ 15) × (n < 256 ^ body k) ⌝ }
     ensures { λ r. ⌜ (kindOf r ≡ k) × (numberOf r ≡ n) ⌝ }
 {
     match k {
         1 => Element::Character(n),
         2 => Element::Name(n),
-        _ => Element::Macrodigit(n),
-    }
-}
-
-fn bracket(k: u8, n: u32) -> Element
-    requires { ⌜ (4 ≤ k) × (k ≤ 7) × (n < 256 ^ body k) ⌝ }
-    ensures { λ r. ⌜ (kindOf r ≡ k) × (numberOf r ≡ n) ⌝ }
-{
-    match k {
+        3 => Element::Macrodigit(n),
         4 => Element::Open,
         5 => Element::Close,
         6 => Element::Call(n),
-        _ => Element::Return,
-    }
-}
-
-fn variable(k: u8, n: u32) -> Element
-    requires { ⌜ (8 ≤ k) × (k ≤ 10) ⌝ }
-    ensures { λ r. ⌜ (kindOf r ≡ k) × (numberOf r ≡ n) ⌝ }
-{
-    match k {
+        7 => Element::Return,
         8 => Element::SVariable(n),
         9 => Element::TVariable(n),
-        _ => Element::EVariable(n),
-    }
-}
-
-fn mark(k: u8, n: u32) -> Element
-    requires { ⌜ (11 ≤ k) × (k ≤ 15) × (n < 256 ^ body k) ⌝ }
-    ensures { λ r. ⌜ (kindOf r ≡ k) × (numberOf r ≡ n) ⌝ }
-{
-    match k {
+        10 => Element::EVariable(n),
         11 => Element::Equals,
         12 => Element::SentenceEnd,
         13 => Element::Header(n),
         14 => Element::FunctionEnd,
         _ => Element::ProgramEnd,
     }
-}
-
-// The element of kind k with the number n, which is 0 where there is no body.
-fn make(k: u8, n: u32) -> Element
-    requires { ⌜ (1 ≤ k) × (k ≤ 15) × (n < 256 ^ body k) ⌝ }
-    ensures { λ r. ⌜ (kindOf r ≡ k) × (numberOf r ≡ n) ⌝ }
-{
-    if k <= 3 {
-        return symbol(k, n);
-    }
-    if k <= 7 {
-        return bracket(k, n);
-    }
-    if k <= 10 {
-        return variable(k, n);
-    }
-    mark(k, n)
 }
 
 fn byte(s: &[u8], at: usize) -> u32
