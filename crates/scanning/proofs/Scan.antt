@@ -15,8 +15,9 @@ use Rattle.meaning.proofs.Truth.{never, or-left}
 use Rattle.meaning.proofs.Cutting.{Whole, cut-at}
 use Rattle.meaning.proofs.Leading.{holds-append, join-append, size-append}
 use Rattle.elements.specs.Reading.{Characters, no-more, one-more}
+use Rattle.kinds.proofs.Stacks.{stack-push}
 use Rattle.scanning.specs.State.{fieldAt, Good, isCall, marksOf, calm, Standing, Reached, Next, Advanced}
-use Rattle.scanning.proofs.Marks.{size-nil, size-cons, whole-right, whole-first, join-whole, stack-push, opens-no7, opens-many, opens-call, no-close, first-mark, no-mark, Calmed, all-calm, then-call, calmed, calm-call, calm-plain}
+use Rattle.scanning.proofs.Marks.{size-nil, size-cons, whole-right, whole-first, join-whole, opens-no7, opens-many, opens-call, no-close, first-mark, no-mark, Calmed, all-calm, then-call, calmed, calm-call, calm-plain}
 use Rattle.scanning.proofs.Gap.{back-bytes, back-long, kind-at, slid-down}
 
 -- READING
