@@ -13,7 +13,8 @@ use Rattle.meaning.specs.Goodness.{left, right, span, stands, implies, endsSide
 use Rattle.meaning.proofs.Truth.{never, is-true, is-false, see, or-right, span-le}
 use Rattle.taking.specs.declared.State.{State}
 use Rattle.taking.specs.declared.Item.{Item}
-use Rattle.taking.specs.Standing.{partOf, nextOf, opened, stackAfter, depthAfter, fresh, limitsOf, testsOf, Movable, movedTo, Ready, Tells, elementAt, Steps}
+use Rattle.kinds.specs.Stacks.{stack}
+use Rattle.taking.specs.Standing.{partOf, nextOf, stackAfter, depthAfter, fresh, limitsOf, testsOf, Movable, movedTo, Ready, Tells, elementAt, Steps}
 use Rattle.checking.specs.Passing.{entireOf, HasRoom, Tried}
 use Rattle.taking.proofs.Parts.{sided-is}
 use Rattle.taking.proofs.Opens.{neither-of as neither, alone, Becomes, none-moves}
@@ -41,9 +42,9 @@ end-kind k z =
 
 -- ---- a step without a fault
 module _ (q : State) (k v : ℕ) (st : List ℕ) (R : Ready q st) (known : span 1 15 k ≡ true) (stood : stands (partOf (q .part)) k ≡ true)
-    (nu : implies (span 8 10 k) (leb v 15) ≡ true) (p : paired k (opened (q .depth) st) ≡ true) (new : Bool) (en : new ≡ fresh (q .set) k v)
+    (nu : implies (span 8 10 k) (leb v 15) ≡ true) (p : paired k (stack (q .depth) st) ≡ true) (new : Bool) (en : new ≡ fresh (q .set) k v)
     (lim : 0 ≡ firstFailing 6 (limitsOf q k new)) (to : ℕ) (et : k < 32 → to ≡ nextOf (partOf (q .part)) k) where
-  good : 0 ≡ firstFailing 1 (testsOf q (entireOf k v) (opened (q .depth) st) new)
+  good : 0 ≡ firstFailing 1 (testsOf q (entireOf k v) (stack (q .depth) st) new)
   unfolding testsOf
   good = passes 1 _ known (passes 2 _ refl (passes 3 _ stood (passes 4 _ nu (passes 5 _ p lim))))
 
@@ -89,7 +90,7 @@ module _ (q : State) (H : HasRoom q) where
   pub few : q .count < 400
   few = under (q .part) (q .count) (ne-eqb (q .part) 0 (λ e. omega (arith, span-le 3 4 (q .part) (H .0)))) (H .1)
 
-  module _ (k v : ℕ) (low : 1 ≤ k) (high : k ≤ 10) (right-only : (k ≡ 6) ⊎ (k ≡ 7) → q .part ≡ 4) (st : List ℕ) (R : Ready q st) (p : paired k (opened (q .depth) st) ≡ true) where
+  module _ (k v : ℕ) (low : 1 ≤ k) (high : k ≤ 10) (right-only : (k ≡ 6) ⊎ (k ≡ 7) → q .part ≡ 4) (st : List ℕ) (R : Ready q st) (p : paired k (stack (q .depth) st) ≡ true) where
     stands-here : stands (partOf (q .part)) k ≡ true
     stands-here = stood (q .part) k (side-part (q .part) (H .0)) low high right-only
 
@@ -137,7 +138,7 @@ new-movable q e k v new H ee low high small w = rw ee (λ z. omega (arith, few q
 pub refused : (q : State) (e : Item) (st : List ℕ) {n : ℕ} → (n ≡ 0 → ⊥) → Tried q e st (record { fault = n; next = q }) st
 refused q e st n = record { steps = λ z. absurd (n z); part = refl; kept = λ m. refl }
 
-pub bracket-passed : (q : State) (H : HasRoom q) (k : ℕ) → 4 ≤ k → k ≤ 7 → ((5 < k) × (q .part ≡ 4)) ⊎ (k ≤ 5) → (st : List ℕ) → Ready q st → paired k (opened (q .depth) st) ≡ true
+pub bracket-passed : (q : State) (H : HasRoom q) (k : ℕ) → 4 ≤ k → k ≤ 7 → ((5 < k) × (q .part ≡ 4)) ⊎ (k ≤ 5) → (st : List ℕ) → Ready q st → paired k (stack (q .depth) st) ≡ true
     → (d : ℕ) (st′ : List ℕ) (q′ : State) (e : Item) → d ≡ depthAfter k (q .depth) → st′ ≡ stackAfter k (q .depth) st → e ≡ entireOf k 0 → q′ ≡ movedTo q e (q .part) d false
     → Tried q (entireOf k 0) st (record { fault = 0; next = q′ }) st′
 unfolding movedTo
@@ -164,8 +165,8 @@ variable-passed q H k v low high small new en w q′ e ee eq st R =
     still : Becomes k (q .depth) st (q .depth) st
     still = none-moves k (q .depth) st (neither k 4 6 (omega arith) (omega arith)) (neither k 5 7 (omega arith) (omega arith))
 
-    pairs : paired k (opened (q .depth) st) ≡ true
-    pairs = alone k (opened (q .depth) st) high (neither k 5 7 (omega arith) (omega arith))
+    pairs : paired k (stack (q .depth) st) ≡ true
+    pairs = alone k (stack (q .depth) st) high (neither k 5 7 (omega arith) (omega arith))
 
     numbered : implies (span 8 10 k) (leb v 15) ≡ true
     numbered = rw (le-leb 8 k low, le-leb k 10 high, le-leb v 15 small)

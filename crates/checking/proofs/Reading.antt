@@ -16,7 +16,8 @@ use Rattle.meaning.proofs.Cutting.{cut-at}
 use Rattle.taking.specs.declared.State.{State}
 use Rattle.taking.specs.declared.Item.{Item}
 use Rattle.taking.specs.declared.Taken.{Taken}
-use Rattle.taking.specs.Standing.{numberOf, partOf, nextOf, opened, movedTo, Means, Ready, Tells, elementAt, Steps}
+use Rattle.kinds.specs.Stacks.{stack}
+use Rattle.taking.specs.Standing.{numberOf, partOf, nextOf, movedTo, Means, Ready, Tells, elementAt, Steps}
 use Rattle.checking.specs.Passing.{entireOf, HasRoom, Tried, Reading}
 use Rattle.taking.proofs.Parts.{sided-is, in-field, field-stays}
 use Rattle.taking.proofs.Tests.{all, stands-yes, fresh-plain, limits-old, count-side, moved-old}
@@ -42,7 +43,7 @@ abbrev begin : State
 begin = record { part = 1; depth = 0; count = 0; set = 0; number = 0 }
 
 pub begun : (bs st : List ℕ) → 400 ≤ length st → Reading (badProgram bs) bs 0 begin st
-unfolding badProgram opened partOf
+unfolding badProgram stack partOf
 begun bs st l =
     record {
       stage = at outside [] 0 [];
@@ -84,7 +85,7 @@ module _ {found : Option ℕ} {bs st : List ℕ} {i : ℕ} {q : State} (R : Read
   unfolding partOf sided
   entered h n w =
       record {
-        stage = at left (opened (q .depth) st) (q .count) (R .means .vs);
+        stage = at left (stack (q .depth) st) (q .count) (R .means .vs);
         means = record { vs = R .means .vs; is = refl; holds = R .means .holds; part = omega arith; deep = omega (arith, none w); inside = R .means .inside; few = R .means .few };
         program = omega arith;
         room = R .room;
@@ -96,10 +97,10 @@ module _ {found : Option ℕ} {bs st : List ℕ} {i : ℕ} {q : State} (R : Read
       none (inl e) = rw e at (R .means .deep)
       none (inr e) = rw e at (R .means .deep)
 
-      as-left : (q .part ≡ 2) ⊎ (q .part ≡ 5) → (es : List Element) → firstBad (at (partOf (q .part)) (opened (q .depth) st) (q .count) (R .means .vs)) i (elementAt bs i ∷ es)
-          ≡ firstBad (at left (opened (q .depth) st) (q .count) (R .means .vs)) i (elementAt bs i ∷ es)
-      as-left (inl e) es = rw e (start-left (opened (q .depth) st) (q .count) (R .means .vs) i (elementAt bs i) es)
-      as-left (inr e) es = rw e (after-left (opened (q .depth) st) (q .count) (R .means .vs) i (elementAt bs i) es n)
+      as-left : (q .part ≡ 2) ⊎ (q .part ≡ 5) → (es : List Element) → firstBad (at (partOf (q .part)) (stack (q .depth) st) (q .count) (R .means .vs)) i (elementAt bs i ∷ es)
+          ≡ firstBad (at left (stack (q .depth) st) (q .count) (R .means .vs)) i (elementAt bs i ∷ es)
+      as-left (inl e) es = rw e (start-left (stack (q .depth) st) (q .count) (R .means .vs) i (elementAt bs i) es)
+      as-left (inr e) es = rw e (after-left (stack (q .depth) st) (q .count) (R .means .vs) i (elementAt bs i) es n)
 
   -- one element more
   module _ (h : i < length bs) {e : Item} (I : Tells e (elementAt bs i)) {r : Taken} {st′ : List ℕ} (S : Steps q e st r st′) where
@@ -140,7 +141,7 @@ module _ {found : Option ℕ} {bs st : List ℕ} {i : ℕ} {q : State} (R : Read
           }
 
   -- the bytes end
-  module _ (h : length bs ≤ i) {r : Bool} (m : (st : List ℕ) (vs : List Element) → r ≡ mayEnd (at (partOf (q .part)) (opened (q .depth) st) (q .count) vs)) where
+  module _ (h : length bs ≤ i) {r : Bool} (m : (st : List ℕ) (vs : List Element) → r ≡ mayEnd (at (partOf (q .part)) (stack (q .depth) st) (q .count) vs)) where
     over : found ≡ cond r none (some i)
     unfolding firstBad cut
     over = R .same ∙ rw (drop-of-length-le bs {i = i} h, m st (R .means .vs), R .means .is)
@@ -181,7 +182,7 @@ module _ {found : Option ℕ} {bs st : List ℕ} {i : ℕ} {q : State} (R : Read
         let z : endsSide k ≡ false = no-end k (omega arith) in
         let c : q .count + 1 ≡ countAfter (partOf (q .part)) k (q .count) = count-side (q .part) k (q .count) z (rw (sided-is (q .part), H .0) (or-right (eqb (q .part) 0))) in
         turned R (omega arith) (tells-plain bs i (omega arith) (omega arith) y)
-        (old-steps q H k 0 low (omega arith) (λ w. absurd (neither k 6 7 (omega arith) (omega arith) w)) st (ready R) (alone k (opened (q .depth) st) (omega arith) n) (rw y) false (fresh-plain (q .set) k 0 y) refl
+        (old-steps q H k 0 low (omega arith) (λ w. absurd (neither k 6 7 (omega arith) (omega arith) w)) st (ready R) (alone k (stack (q .depth) st) (omega arith) n) (rw y) false (fresh-plain (q .set) k 0 y) refl
         (q .depth) st _ (B .0) (B .1) (moved-old q (entireOf k 0) (q .part) (q .depth) false (q .count + 1) c (H .0) refl)) refl refl b eb
 
   pub bracket-on : {r : Taken} {st′ : List ℕ} (b : ℕ) → b ≡ body (getD bs i 0) → b ≤ 4 → i + 5 ≤ length bs → getD bs i 0 < 8 → Tried q (entireOf (getD bs i 0) 0) st r st′ → r .fault ≡ 0 → length st′ ≡ length st

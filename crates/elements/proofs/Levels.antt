@@ -71,6 +71,10 @@ pub characters-level : {s : List ℕ} {stop to at i : ℕ} → Level s at → to
 characters-level b l no-more = b
 characters-level {s} b l (one-more {i} c h e n) = character-behind s i (omega arith) (characters-level b l c) e
 
+pub characters-within : {s : List ℕ} {stop to at i : ℕ} → at ≤ length s → to ≤ length s → Characters s stop to at i → i ≤ length s
+characters-within h l no-more = h
+characters-within h l (one-more c k e n) = omega arith
+
 pub characters-on : {s : List ℕ} {stop to at i : ℕ} → Characters s stop to at i → at ≤ i
 characters-on no-more = omega arith
 characters-on (one-more c h e n) = let l = characters-on c in omega arith
@@ -149,7 +153,7 @@ not-empty (symbols t l b) q = never (cc)
 not-empty (opening b) q = never (cc)
 not-empty (closing b) q = never (cc)
 
-pub seek-inside : (s : List ℕ) (at i j : ℕ) → Seeking s at i j → 0 < j → i < length s
+seek-inside : (s : List ℕ) (at i j : ℕ) → Seeking s at i j → 0 < j → i < length s
 seek-inside s at i zero k h = never (omega arith)
 seek-inside s at i (suc j) k h =
     elim (see (leb (length s) i)) [
@@ -241,12 +245,21 @@ seek-on s at i zero k h = never (omega arith)
 seek-on s at i (suc j) k h = turned s at i j k (seek-inside s at i (suc j) k h)
 
 -- over characters the depth stays
-pub seek-over : {s : List ℕ} {at i j stop to t : ℕ} → Seeking s at i j → 0 < j → Characters s stop to i t → Seeking s at t j
+over : {s : List ℕ} {at i j stop to t : ℕ} → Seeking s at i j → 0 < j → Characters s stop to i t → Seeking s at t j
 unfolding depthAfter body
-seek-over k h no-more = k
-seek-over {s} {at} {j = j} k h (one-more {i} c l e n) =
+over k h no-more = k
+over {s} {at} {j = j} k h (one-more {i} c l e n) =
     let z : i + 1 + 1 ≡ i + 2 = omega arith in
-    rw z at (rw e at (seek-on s at i j (seek-over k h c) h))
+    rw z at (rw e at (seek-on s at i j (over k h c) h))
+
+-- the place behind them, at which an element stands
+pub record Onward (s : List ℕ) (at i j t : ℕ) : Type 0 where
+  pub on : i ≤ t
+  pub inside : t < length s
+  pub seeking : Seeking s at t j
+
+pub seek-over : {s : List ℕ} {at i j stop to t : ℕ} → Seeking s at i j → 0 < j → Characters s stop to i t → Onward s at i j t
+seek-over {s} {at} {j = j} {t = t} k h c = let o = over k h c in record { on = characters-on c; inside = seek-inside s at t j o h; seeking = o }
 
 -- at a closing bracket it falls
 pub seek-shut : {s : List ℕ} {at i j : ℕ} → Seeking s at i j → 0 < j → getD s i 0 ≡ 5 → Seeking s at (i + 1) (j - 1)
@@ -254,9 +267,6 @@ unfolding depthAfter body
 seek-shut {s} {at} {i} {j} k h e =
     let z : i + 1 + 0 ≡ i + 1 = omega arith in
     rw z at (rw e at (seek-on s at i j k h))
-
-pub seek-level : {s : List ℕ} {at i j : ℕ} → Seeking s at i j → Level s i
-seek-level {j = j} k = record { depth = j + k .depth; fits = k .fits; balanced = k .balanced }
 
 -- A BRACKETED TERM
 

@@ -2,7 +2,7 @@
 use mathlib.Core.Path.{_≡_, refl, sym, _∙_, ap}
 use mathlib.Core.Bool.{true, false}
 use mathlib.Core.List.{List, [], _∷_, _++_, append-assoc}
-use Prim.Native.Nat.{ℕ, suc, _+_, _-_, _^_, _≤_, _<_}
+use Prim.Native.Nat.{ℕ, zero, suc, _+_, _-_, _^_, _≤_, _<_}
 use native.Mathlib.Omega.{arith}
 use lib.ListN.{length, getD, take, drop, length-append, length-take, length-drop, drop-of-length-le}
 use lib.Dec.{T, leb}
@@ -21,6 +21,18 @@ use Rattle.elements.specs.Reading.{Splits, ReadAt, over, unknown, short,
 -- an element without a body has the number 0
 pub no-number : (k j n : ℕ) → k ≡ j → body j ≡ 0 → n < 256 ^ body k → 0 ≡ n
 no-number k j n e z h = let q : body k ≡ 0 = rw e z in (let i : n < 256 ^ 0 = rw q at h in omega arith)
+
+-- k is none of 1 to n
+abbrev NoneOf : ℕ → ℕ → Type 0
+NoneOf k zero = Unit {0}
+NoneOf k (suc n) = NoneOf k n × (k ≡ suc n → ⊥)
+
+beyond : (n k : ℕ) → 1 ≤ k → NoneOf k n → n < k
+beyond zero k h r = h
+beyond (suc n) k h r = let l = beyond n k h (r .0) in let q = r .1 in omega arith
+
+pub last-of : (n k : ℕ) → 1 ≤ k → k ≤ suc n → NoneOf k n → k ≡ suc n
+last-of n k h i r = let l = beyond n k h r in omega arith
 
 -- nothing stands past the end
 pub none-left : (s : List ℕ) (at : ℕ) → length s ≤ at → elements (drop at s) ≡ []

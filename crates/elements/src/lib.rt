@@ -93,68 +93,28 @@ fn number_of(x: Element) -> u32
     }
 }
 
-fn symbol(k: u8, n: u32) -> Element
-    requires { ⌜ (1 ≤ k) × (k ≤ 3) ⌝ }
+// The element of kind k with the number n, which is 0 where there is no body: one match, which the compiler joins with its reader's.
+fn make(k: u8, n: u32) -> Element
+    requires { ⌜ (1 ≤ k) × (k ≤ 15) × (n < 256 ^ body k) ⌝ }
     ensures { λ r. ⌜ (kindOf r ≡ k) × (numberOf r ≡ n) ⌝ }
 {
     match k {
         1 => Element::Character(n),
         2 => Element::Name(n),
-        _ => Element::Macrodigit(n),
-    }
-}
-
-fn bracket(k: u8, n: u32) -> Element
-    requires { ⌜ (4 ≤ k) × (k ≤ 7) × (n < 256 ^ body k) ⌝ }
-    ensures { λ r. ⌜ (kindOf r ≡ k) × (numberOf r ≡ n) ⌝ }
-{
-    match k {
+        3 => Element::Macrodigit(n),
         4 => Element::Open,
         5 => Element::Close,
         6 => Element::Call(n),
-        _ => Element::Return,
-    }
-}
-
-fn variable(k: u8, n: u32) -> Element
-    requires { ⌜ (8 ≤ k) × (k ≤ 10) ⌝ }
-    ensures { λ r. ⌜ (kindOf r ≡ k) × (numberOf r ≡ n) ⌝ }
-{
-    match k {
+        7 => Element::Return,
         8 => Element::SVariable(n),
         9 => Element::TVariable(n),
-        _ => Element::EVariable(n),
-    }
-}
-
-fn mark(k: u8, n: u32) -> Element
-    requires { ⌜ (11 ≤ k) × (k ≤ 15) × (n < 256 ^ body k) ⌝ }
-    ensures { λ r. ⌜ (kindOf r ≡ k) × (numberOf r ≡ n) ⌝ }
-{
-    match k {
+        10 => Element::EVariable(n),
         11 => Element::Equals,
         12 => Element::SentenceEnd,
         13 => Element::Header(n),
         14 => Element::FunctionEnd,
         _ => Element::ProgramEnd,
     }
-}
-
-// The element of kind k with the number n, which is 0 where there is no body.
-fn make(k: u8, n: u32) -> Element
-    requires { ⌜ (1 ≤ k) × (k ≤ 15) × (n < 256 ^ body k) ⌝ }
-    ensures { λ r. ⌜ (kindOf r ≡ k) × (numberOf r ≡ n) ⌝ }
-{
-    if k <= 3 {
-        return symbol(k, n);
-    }
-    if k <= 7 {
-        return bracket(k, n);
-    }
-    if k <= 10 {
-        return variable(k, n);
-    }
-    mark(k, n)
 }
 
 fn byte(s: &[u8], at: usize) -> u32
@@ -233,6 +193,25 @@ impl Cursor {
             },
         }
     }
+
+    // Past the characters that end before `to` at the latest, up to one with the code `stop`, if that is a byte. Most elements are
+    // characters: their stride is fixed, so that a processor can run ahead.
+    pub fn past_characters(self, s: &[u8], stop: u16, to: usize) -> Cursor
+        requires { ⌜ (self .at ≤ length (now s)) × (to ≤ length (now s)) ⌝ }
+        ensures { λ r. ⌜ Characters (now (s .entry)) stop to (self .at) (r .at) ⌝ }
+    {
+        let mut at = self.at;
+        while at + 1 < to {
+            if s[at] != 1 {
+                return Cursor { at };
+            }
+            if s[at + 1] as u16 == stop {
+                return Cursor { at };
+            }
+            at += 2;
+        }
+        Cursor { at }
+    }
 }
 
 // Past the symbol at a place.
@@ -264,44 +243,26 @@ fn depth_after(k: u8, depth: usize) -> usize
     depth
 }
 
-// Past the characters that begin before `to`, up to one with the code `stop`, if that is a byte. Most terms are characters: their loop looks no length up.
-pub fn characters_end(s: &[u8], at: usize, stop: u16, to: usize) -> usize
-    requires { ⌜ Level (now s) at × (to ≤ length (now s)) ⌝ }
-    ensures { λ r. ⌜ Characters (now (s .entry)) stop to at r ⌝ }
-{
-    let mut i = at;
-    while i < to {
-        if s[i] != 1 {
-            return i;
-        }
-        if s[i + 1] as u16 == stop {
-            return i;
-        }
-        i = i + 2;
-    }
-    i
-}
-
 // Past the bracket that closes the one that was opened just before a place.
 fn shut_end(s: &[u8], at: usize) -> usize
     requires { ⌜ Shutting (now s) at ⌝ }
     ensures { λ r. ⌜ Shut (now (s .entry)) at r ⌝ }
 {
-    let mut i = at;
+    let mut c = Cursor { at };
     let mut depth: usize = 1;
     while 0 < depth {
-        i = characters_end(s, i, 256, s.len());
-        let k = s[i];
+        c = c.past_characters(s, 256, s.len());
+        let passed = c.pass(s);
         // A closing bracket by itself: what stands behind it is read without waiting for a look-up.
-        if k == 5 {
+        if passed.kind == 5 {
             depth = depth - 1;
-            i = i + 1;
+            c = Cursor { at: c.at + 1 };
         } else {
-            depth = depth_after(k, depth);
-            i = i + 1 + kinds::body_of(k);
+            depth = depth_after(passed.kind, depth);
+            c = passed.next;
         }
     }
-    i
+    c.at
 }
 
 // Past the term at a place.

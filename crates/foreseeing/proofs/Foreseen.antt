@@ -304,7 +304,7 @@ over-characters {w} {s} {i = i} {stop} {to} u e r l k (character-more {i = n} c 
     bars : Barred w s n
     bars =
         elim (see (eqb (w .first) 0)) [
-          | is-true z ↦ r .barred n (characters-on c) h (eqb-true _ _ z)
+          | is-true z ↦ r .barred n (characters-on c) (omega arith) (eqb-true _ _ z)
           | is-false z ↦
               let o : 0 < w .first = (let y = eqb-false (w .first) 0 z in omega arith) in
               elim (see (eqb (w .first) 1)) [

@@ -226,7 +226,9 @@ pub fn next_end(w: Ahead, arg: &[u8], at: usize) -> Found
         }
         match elements::term_end(arg, i) {
             Found::At(next) => {
-                i = elements::characters_end(arg, next, stop, run_end(w, arg, next));
+                let c = Cursor { at: next };
+                let behind = c.past_characters(arg, stop, run_end(w, arg, next));
+                i = behind.at;
             }
             Found::Nothing => {
                 return Found::Nothing;

@@ -1,3 +1,4 @@
 pub mod Bodies
 pub mod Sets
 pub mod Runs
+pub mod Stacks

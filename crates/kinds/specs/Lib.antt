@@ -1,2 +1,3 @@
 pub mod Slots
 pub mod Characters
+pub mod Stacks

@@ -18,7 +18,8 @@ use Rattle.meaning.proofs.Balance.{brackets}
 use Rattle.meaning.proofs.Words.{StepIs}
 use Rattle.meaning.proofs.Steps.{step-good, step-is, stuck-code}
 use Rattle.meaning.proofs.Runs.{run-done, run-paused, run-stuck, run-onward}
-use Rattle.scanning.specs.State.{fieldOf, fieldAt, Good, stack, marksOf, none-open, Reached, Advanced}
+use Rattle.kinds.specs.Stacks.{stack}
+use Rattle.scanning.specs.State.{fieldOf, fieldAt, Good, marksOf, none-open, Reached, Advanced}
 use Rattle.scanning.proofs.Marks.{size-nil}
 use Rattle.scanning.proofs.Gap.{brought-up, brought-down}
 use Rattle.choosing.specs.Choose.{restOf}

@@ -1,13 +1,12 @@
 -- Elements, their bytes, and the call brackets among them.
-use mathlib.Core.Path.{_≡_, refl, sym, _∙_, ap, ap₂, subst}
+use mathlib.Core.Path.{_≡_, refl, sym, _∙_, ap, subst}
 use mathlib.Core.Bool.{true, false}
 use mathlib.Core.Option.{some}
 use mathlib.Core.List.{List, [], _∷_, _++_, append-assoc, append-nil}
-use Prim.Native.Nat.{ℕ, zero, suc, _+_, _≤_, _<_}
+use Prim.Native.Nat.{ℕ, _+_, _<_}
 use native.Mathlib.Omega.{arith}
-use native.Mathlib.Numerals.{add-one}
-use lib.ListN.{length, take, drop, set, length-append}
-use lib.Seq.{getD-set-same, getD-set-other, take-at, drop-at}
+use lib.ListN.{length, take, drop, length-append}
+use lib.Seq.{take-at, drop-at}
 use Rattle.meaning.specs.Elements.{Element, kind, body, cut, join, size, isKind}
 use Rattle.meaning.specs.Machine.{holds, nothing, lead, Lead, leading}
 use Rattle.meaning.proofs.Truth.{never, is-true, is-false, see, or-false}
@@ -15,7 +14,7 @@ use Rattle.meaning.proofs.Cutting.{Whole, w-none, w-more, cut-join}
 use Rattle.meaning.proofs.Balance.{brackets}
 use Rattle.meaning.proofs.Holding.{holds-append}
 use Rattle.meaning.proofs.Leading.{leading-closed, some-leading}
-use Rattle.scanning.specs.State.{isCall, marksOf, calm, stack, Opens, none-open, one-open}
+use Rattle.scanning.specs.State.{isCall, marksOf, calm, Opens, none-open, one-open}
 
 pub size-nil : size [] ≡ 0
 unfolding size join
@@ -52,16 +51,7 @@ same-front a b c d e l = sym (take-at a b (length c) l) ∙ ap (take (length c))
 pub same-back : (a b c d : List ℕ) → a ++ b ≡ c ++ d → length a ≡ length c → b ≡ d
 same-back a b c d e l = sym (drop-at a b (length c) l) ∙ ap (drop (length c)) e ∙ drop-at c d (length c) refl
 
--- THE STACK OF OPEN CALLS
-pub stack-set : (d i v : ℕ) (s : List ℕ) → d ≤ i → stack d (set s i v) ≡ stack d s
-unfolding stack
-stack-set zero i v s h = refl
-stack-set (suc d) i v s h = ap₂ {C = List ℕ} (λ x l. x ∷ l) (getD-set-other s i d v 0 (omega arith)) (stack-set d i v s (omega arith))
-
-pub stack-push : (d v : ℕ) (s : List ℕ) → d < length s → stack (d + 1) (set s d v) ≡ v ∷ stack d s
-unfolding stack
-stack-push d v s h = rw add-one (ap₂ {C = List ℕ} (λ x l. x ∷ l) (getD-set-same s d v 0 h) (stack-set d d v s (omega arith)))
-
+-- THE OPEN CALLS
 pub opens-no7 : {zs : List Element} {st : List ℕ} → Opens zs st → holds 7 zs ≡ false
 opens-no7 (none-open n6 n7) = n7
 opens-no7 (one-open {xs} {zs} c ys o k n6 n7 a q) =

@@ -14,9 +14,10 @@ use Rattle.meaning.specs.Machine.{holds}
 use Rattle.meaning.proofs.Truth.{never, or-left}
 use Rattle.meaning.proofs.Cutting.{Whole, cut-at, join-append, size-append}
 use Rattle.meaning.proofs.Holding.{holds-append}
-use Rattle.kinds.specs.Characters.{Characters, no-character, one-character}
+use Rattle.elements.specs.Reading.{Characters, no-more, one-more}
+use Rattle.kinds.proofs.Stacks.{stack-push}
 use Rattle.scanning.specs.State.{fieldAt, Good, isCall, marksOf, calm, Standing, Reached, Next, Advanced}
-use Rattle.scanning.proofs.Marks.{size-nil, size-cons, whole-right, whole-first, join-whole, stack-push, opens-no7, opens-many, opens-call, no-close, first-mark, no-mark, Calmed, all-calm, then-call, calmed, calm-call, calm-plain}
+use Rattle.scanning.proofs.Marks.{size-nil, size-cons, whole-right, whole-first, join-whole, opens-no7, opens-many, opens-call, no-close, first-mark, no-mark, Calmed, all-calm, then-call, calmed, calm-call, calm-plain}
 use Rattle.scanning.proofs.Gap.{back-bytes, back-long, kind-at, slid-down}
 
 -- READING
@@ -71,10 +72,10 @@ module _ (f : List ℕ) (at i : ℕ) (s : Seeking f at i) where
         })
 
 -- characters are no brackets
-pub seek-on : (f : List ℕ) (at : ℕ) {i j : ℕ} → Seeking f at i → Characters f i j → Seeking f at j
-seek-on f at s (no-character l) = s
-seek-on f at s (one-character {at = j} c l e) =
-    let t = seek-on f at s c in
+pub seek-on : {f : List ℕ} {at stop to i j : ℕ} → to ≤ length f → Seeking f at i → Characters f stop to i j → Seeking f at j
+seek-on h s no-more = s
+seek-on {f} {at} h s (one-more {i = j} c l e n) =
+    let t = seek-on h s c in
     let one : 1 ≡ body (getD f j 0) = rw e (unfold body in refl) in
     let q : j + 1 + 1 ≡ j + 2 = omega arith in
     rw q at (seek-next f at j t (omega arith) (λ z. omega (arith, z)) (λ z. omega (arith, z)) 1 one)

@@ -3,13 +3,14 @@ use mathlib.Core.Path.{_≡_}
 use mathlib.Core.Bool.{Bool, true, false, _||_}
 use mathlib.Core.Option.{some}
 use mathlib.Core.List.{List, [], _∷_, _++_}
-use Prim.Native.Nat.{ℕ, zero, suc, _+_, _*_, _≤_, _<_}
+use Prim.Native.Nat.{ℕ, _+_, _*_, _≤_, _<_}
 use lib.ListN.{length, getD, take, drop}
 use Rattle.meaning.specs.Elements.{Element, kind, cut, isKind, size}
 use Rattle.meaning.specs.Machine.{holds}
 use Rattle.meaning.proofs.Cutting.{Whole}
 use Rattle.meaning.proofs.Balance.{brackets}
 use Rattle.meaning.proofs.Programs.{Solid}
+use Rattle.kinds.specs.Stacks.{stack}
 
 -- the elements of the first `used` bytes
 unfoldable pub fieldOf : List ℕ → ℕ → List Element
@@ -26,11 +27,6 @@ pub record Good (f : List ℕ) (lo hi : ℕ) : Type 0 where
   pub whole : Whole (fieldAt f lo hi)
   pub solid : Solid (fieldAt f lo hi)
   pub balanced : brackets [] (fieldAt f lo hi) ≡ some []
-
--- the first d numbers of a list, the last first
-unfoldable pub stack : ℕ → List ℕ → List ℕ
-stack zero s = []
-stack (suc d) s = getD s d 0 ∷ stack d s
 
 -- elements without any >, and the offsets of the < among them, the last first
 pub data Opens : List Element → List ℕ → Type 0 where

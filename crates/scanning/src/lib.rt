@@ -1,4 +1,5 @@
 // The field spread over its buffer, with a gap at the place of work; and the call brackets on both sides of it.
+use elements::Cursor;
 ghost use mathlib.Core.Path.{_≡_};
 ghost use Prim.Native.Nat.{_+_, _*_, _≤_, _<_};
 ghost use lib.ListN.{length, getD, drop};
@@ -30,18 +31,19 @@ fn next_bracket(field: &[u8], at: usize) -> usize
     requires { ⌜ Whole (cut 0 (drop at (now field))) ⌝ }
     ensures { λ r. ⌜ r ≡ at + size (calm (cut 0 (drop at (now (field .entry))))) ⌝ }
 {
-    let mut i = at;
-    while i < field.len() {
-        let k = field[i];
-        if k == 6 {
-            return i;
+    let mut c = Cursor { at };
+    while c.at < field.len() {
+        let passed = c.pass(field);
+        if passed.kind == 6 {
+            return c.at;
         }
-        if k == 7 {
-            return i;
+        if passed.kind == 7 {
+            return c.at;
         }
-        i = kinds::past_characters(field, i + 1 + kinds::body_of(k));
+        let next = passed.next;
+        c = next.past_characters(field, 256, field.len());
     }
-    i
+    c.at
 }
 
 // The next call bracket, from the notes or, where these are used up, read off the field.

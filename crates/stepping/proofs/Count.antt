@@ -1,12 +1,12 @@
 -- How many call brackets a field has, and where those of a right side come to stand.
-use mathlib.Core.Path.{_≡_, refl, sym, _∙_, ap, ap₂}
+use mathlib.Core.Path.{_≡_, refl, sym, _∙_, ap}
 use mathlib.Core.Bool.{true, false}
 use mathlib.Core.Option.{some}
 use mathlib.Core.List.{List, [], _∷_, _++_, append-assoc}
-use Prim.Native.Nat.{ℕ, zero, suc, _+_, _*_, _≤_}
+use Prim.Native.Nat.{ℕ, suc, _+_, _*_, _≤_}
 use native.Mathlib.Omega.{arith}
-use lib.ListN.{length, getD, take, drop}
-use lib.Seq.{sets, sets-eq, drop-at, take-at, length-take-le, getD-take}
+use lib.ListN.{length, take, drop}
+use lib.Seq.{sets, sets-eq, drop-at, length-take-le}
 use lib.Dec.{eqb}
 use borrow.Author.Tests.{eqb-true, ne-eqb}
 use Rattle.meaning.specs.Elements.{Element, kind, body, size, same, isKind, isVariable, among}
@@ -16,7 +16,7 @@ use Rattle.meaning.specs.Matching.{put}
 use Rattle.meaning.proofs.Truth.{never, is-true, is-false, see, or-false, or-right, same-refl}
 use Rattle.meaning.proofs.Cutting.{Whole, w-none, w-more}
 use Rattle.meaning.proofs.Balance.{brackets, brackets-4, brackets-5, brackets-6, brackets-7, brackets-5-bad, brackets-7-bad, passes, b4, b5, b6, b7, b0, brace}
-use Rattle.scanning.specs.State.{isCall, marksOf, stack, Opens, none-open, one-open}
+use Rattle.scanning.specs.State.{isCall, marksOf, Opens, none-open, one-open}
 use Rattle.scanning.proofs.Marks.{size-nil, size-cons}
 use Rattle.building.specs.Build.{callsOf, spanOf, placed, Calm}
 use Rattle.building.proofs.Spans.{calls-one, calls-none, placed-one, placed-none, span-plain}
@@ -49,11 +49,6 @@ opens-calls (none-open {zs} n6 n7) = no-calls zs n6 n7
 opens-calls (one-open {xs} {zs} {at} {st} c ys o k n6 n7 a q) =
     let z : isCall c ≡ true = rw k in
     omega (arith, ap callsOf q, calls-append xs (c ∷ ys), opens-calls o, calls-one [] c ys z, no-calls ys n6 n7)
-
-pub stack-long : (d : ℕ) (calls : List ℕ) → length (stack d calls) ≡ d
-unfolding stack
-stack-long zero calls = refl
-stack-long (suc d) calls = ap suc (stack-long d calls)
 
 -- A BALANCED FIELD HAS ROOM FOR ITS BRACKETS
 sixes : List ℕ → ℕ
@@ -184,14 +179,6 @@ pub noted-top : (calls vs : List ℕ) (first top : ℕ) → first + length vs �
 noted-top calls vs first top e h =
     ap (drop first) (sets-eq vs calls first (omega arith)) ∙ ap (drop first) (append-assoc (take first calls) vs (drop (first + length vs) calls)) ∙ drop-at (take first calls) _ first (length-take-le first calls (omega arith))
     ∙ ap {B = List ℕ} (λ (k : ℕ). vs ++ drop k calls) e
-
-pub noted-below : (calls vs : List ℕ) (first d : ℕ) → d ≤ first → first + length vs ≤ length calls → stack d (sets calls first vs) ≡ stack d calls
-unfolding stack
-noted-below calls vs first zero h k = refl
-noted-below calls vs first (suc d) h k =
-    let t : take first (sets calls first vs) ≡ take first calls =
-    ap (take first) (sets-eq vs calls first k ∙ append-assoc (take first calls) vs (drop (first + length vs) calls)) ∙ take-at (take first calls) _ first (length-take-le first calls (omega arith)) in
-    ap₂ {C = List ℕ} (λ x l. x ∷ l) (sym (getD-take first (sets calls first vs) d 0 (omega arith)) ∙ ap (λ (l : List ℕ). getD l d 0) t ∙ getD-take first calls d 0 (omega arith)) (noted-below calls vs first d (omega arith) k)
 
 pub placed-long : (side : List Element) (b : List ℕ) (at : ℕ) → length (placed at b side) ≡ callsOf side
 unfolding placed callsOf

@@ -2,9 +2,8 @@
 use mathlib.Core.Path.{_≡_, refl, sym, _∙_, ap}
 use mathlib.Core.Bool.{true, false, _&&_}
 use mathlib.Core.List.{List, [], _∷_, _++_, append-assoc, append-nil}
-use Prim.Native.Nat.{ℕ, zero, suc, _+_, _*_, _-_, _≤_, _<_}
+use Prim.Native.Nat.{ℕ, _+_, _*_, _-_, _≤_, _<_}
 use native.Mathlib.Omega.{arith}
-use native.Mathlib.Numerals.{sub-one}
 use lib.ListN.{length, getD, drop, length-drop}
 use lib.Seq.{paste, length-paste}
 use Rattle.meaning.specs.Elements.{Element, kind, body, size, isKind}
@@ -14,13 +13,14 @@ use Rattle.meaning.proofs.Cutting.{Whole, size-append}
 use Rattle.meaning.proofs.Holding.{holds-append}
 use Rattle.meaning.proofs.Leading.{leading-left, leading-here}
 use Rattle.meaning.proofs.Balance.{call-first, fours}
-use Rattle.scanning.specs.State.{fieldAt, Good, stack, Opens, none-open, one-open, Reached}
+use Rattle.kinds.specs.Stacks.{stack}
+use Rattle.kinds.proofs.Stacks.{stack-long, stack-parts}
+use Rattle.scanning.specs.State.{fieldAt, Good, Opens, none-open, one-open, Reached}
 use Rattle.scanning.proofs.Marks.{size-cons, whole-left, whole-right, opens-no7}
 use Rattle.scanning.proofs.Gap.{slid-up}
 use Rattle.choosing.proofs.Rest.{whole-one}
 use Rattle.choosing.proofs.Fill.{before-at, behind-at}
 use Rattle.stepping.specs.Stepping.{Under}
-use Rattle.stepping.proofs.Count.{stack-long}
 
 holds-mid : (k : ℕ) (xs : List Element) (g : Element) (more : List Element) → isKind k g ≡ true → holds k (xs ++ (g ∷ more)) ≡ true
 unfolding holds
@@ -89,18 +89,13 @@ module _ (f : List ℕ) (lo hi at read depth top : ℕ) (calls : List ℕ) (good
       let b : before 7 (fieldAt f lo hi) ≡ pre = ap (before 7) es ∙ before-at 7 pre (r .g) rest p7 k7 in
       never (cc (sym q ∙ ap (holds 6) b ∙ p6))
 
-  pick : (d : ℕ) {i : ℕ} {st : List ℕ} → i ∷ st ≡ stack d calls → (0 < d) × (i ≡ getD calls (d - 1) 0) × (st ≡ stack (d - 1) calls)
-  unfolding stack
-  pick zero e = never (cc)
-  pick (suc d) {i} {st} e = (omega arith, rw sub-one (let q : i ≡ getD calls d 0 = cc in q), rw sub-one (let q : st ≡ stack d calls = cc in q))
-
   pub last : Last calls depth (r .front)
   last = go (r .opened) refl refl
     where
       go : {zs : List Element} {st : List ℕ} → Opens zs st → zs ≡ r .front → st ≡ stack depth calls → Last calls depth (r .front)
       go (none-open n6 n7) ez es = absurd (not-none (ap (holds 6) (sym ez) ∙ n6) (ap (holds 7) (sym ez) ∙ n7))
       go (one-open {xs} {zs} {at = i} {st} c ys o k n6 n7 a q) ez es =
-          let (d0, ei, et) = pick depth es in
+          let (d0, ei, et) = stack-parts depth calls es in
           record { above = d0; xs = xs; c = c; ys = ys; is = sym ez ∙ q; place = sym ei ∙ a; under = rw et at o; kc = k; no6 = n6; no7 = n7 }
 
   long-c : length (last .c) ≡ 3

@@ -21,7 +21,8 @@ use Rattle.choosing.specs.Choose.{restOf, sentences, Body, Looked, there, nowhe
 use Rattle.choosing.specs.declared.Spot.{Spot}
 use Rattle.choosing.specs.declared.Spot.the-variants.{At, Nowhere}
 use Rattle.stepping.specs.Stepping.{argumentOf, Term, Under, Stepped, stays, goes}
-use Rattle.stepping.proofs.Count.{calls-append, opens-calls, stack-long, calls-fit, marks-append, marks-long, marks-put, placed-long, noted-top, noted-below}
+use Rattle.kinds.proofs.Stacks.{stack-sets, stack-long}
+use Rattle.stepping.proofs.Count.{calls-append, opens-calls, calls-fit, marks-append, marks-long, marks-put, placed-long, noted-top}
 use Rattle.stepping.proofs.Term.{places, arg-is, no-function, no-match, no-room, new-field, new-size, new-whole, new-long, new-is}
 
 pub record Place (p name : List ℕ) (i : ℕ) : Type 0 where
@@ -173,7 +174,7 @@ module _ (p f : List ℕ) (from hi at body : ℕ) (g : Good f (from + 3) hi) (re
                     ∙ ap {B = List Element} (λ l. u .term .a ++ l) (sym (append-assoc (sd .r) (u .known) (u .unread)));
                 low = sym (u .term .from-is);
                 up = omega (arith, u .up, size-append (sd .r) (u .known), n-is, ft, plc .0, plc .1);
-                opened = rw (en, noted-below notes (placed (at + 1 - n) b (sideOf p a e)) (top - calls) depth (omega (arith, c, cn)) (omega (arith, c, pl, cn, ins))) (u .opened);
+                opened = rw (en, stack-sets notes (placed (at + 1 - n) b (sideOf p a e)) (top - calls) depth (omega (arith, c, cn)) (omega (arith, c, pl, cn, ins))) (u .opened);
                 deep = u .deep;
                 marked = marked;
                 below = omega (arith, c, cn);

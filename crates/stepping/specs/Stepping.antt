@@ -5,7 +5,8 @@ use Prim.Native.Nat.{ℕ, _+_, _*_, _-_, _≤_, _<_}
 use lib.ListN.{length, take, drop}
 use Rattle.meaning.specs.Elements.{Element, kind, size}
 use Rattle.meaning.specs.Machine.{lead, leading, Step, stuck, onward}
-use Rattle.scanning.specs.State.{fieldAt, stack, Opens, marksOf, Standing}
+use Rattle.kinds.specs.Stacks.{stack}
+use Rattle.scanning.specs.State.{fieldAt, Opens, marksOf, Standing}
 
 -- the bytes of an argument that begins behind the gap and ends before the > at `at`
 abbrev pub argumentOf : List ℕ → ℕ → ℕ → List ℕ

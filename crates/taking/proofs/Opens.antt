@@ -1,47 +1,18 @@
 -- The open brackets in a stack.
-use mathlib.Core.Path.{_≡_, refl, sym, ap₂}
+use mathlib.Core.Path.{_≡_, refl, sym}
 use mathlib.Core.Bool.{Bool, true, false, _&&_, _||_, not}
 use mathlib.Core.Logic.{_⊎_, inl, inr}
-use mathlib.Core.List.{List, _∷_}
+use mathlib.Core.List.{List}
 use Prim.Native.Nat.{ℕ, zero, suc, _+_, _-_, _≤_, _<_}
 use native.Mathlib.Omega.{arith}
-use native.Mathlib.Numerals.{add-one, sub-one}
-use lib.ListN.{length, getD, set, length-set}
-use lib.Seq.{getD-set-same, getD-set-other}
+use lib.ListN.{length, set, length-set}
 use lib.Dec.{eqb}
 use borrow.Author.Tests.{eqb-true, eq-eqb, ne-eqb}
-use Rattle.meaning.specs.Goodness.{implies, empty, top, below, endsSide, paired, opensAfter}
+use Rattle.meaning.specs.Goodness.{implies, empty, top, endsSide, paired, opensAfter}
 use Rattle.meaning.proofs.Truth.{never, is-true, is-false, see, and-right, or-right}
-use Rattle.taking.specs.Standing.{opened, stackAfter, depthAfter}
-
-opened-set : (d i v : ℕ) (st : List ℕ) → d ≤ i → opened d (set st i v) ≡ opened d st
-unfolding opened
-opened-set zero i v st h = refl
-opened-set (suc d) i v st h = ap₂ {C = List ℕ} (λ x l. x ∷ l) (getD-set-other st i d v 0 (omega arith)) (opened-set d i v st (omega arith))
-
-opened-push : (d v : ℕ) (st : List ℕ) → d < length st → opened (d + 1) (set st d v) ≡ v ∷ opened d st
-unfolding opened
-opened-push d v st h = rw add-one (ap₂ {C = List ℕ} (λ x l. x ∷ l) (getD-set-same st d v 0 h) (opened-set d d v st (omega arith)))
-
-opened-pop : (d : ℕ) (st : List ℕ) → opened (d - 1) st ≡ below (opened d st)
-unfolding opened
-opened-pop zero st = refl
-opened-pop (suc d) st = rw sub-one
-
-pub opened-empty : (d : ℕ) (st : List ℕ) → empty (opened d st) ≡ eqb d 0
-unfolding opened
-opened-empty zero st = refl
-opened-empty (suc d) st = sym (ne-eqb (suc d) 0 (omega arith))
-
-pub top-none : (d : ℕ) (st : List ℕ) → d ≡ 0 → 0 ≡ top (opened d st)
-unfolding opened
-top-none zero st h = refl
-top-none (suc d) st h = absurd (omega arith)
-
-pub top-some : (d : ℕ) (st : List ℕ) → (d ≡ 0 → ⊥) → getD st (d - 1) 0 ≡ top (opened d st)
-unfolding opened
-top-some zero st h = absurd (h refl)
-top-some (suc d) st h = rw sub-one
+use Rattle.kinds.specs.Stacks.{stack}
+use Rattle.kinds.proofs.Stacks.{stack-push, stack-pop, stack-empty}
+use Rattle.taking.specs.Standing.{stackAfter, depthAfter}
 
 -- ---- pairs
 and-true : (a : Bool) → (a && true) ≡ a
@@ -57,30 +28,30 @@ implies-false true = refl
 implies-false false = refl
 
 module _ (k d : ℕ) (st : List ℕ) where
-  pub paired-close : (t : ℕ) → t ≡ top (opened d st) → (k ≡ 5) ⊎ (k ≡ 7) → eqb t (k - 1) ≡ paired k (opened d st)
+  pub paired-close : (t : ℕ) → t ≡ top (stack d st) → (k ≡ 5) ⊎ (k ≡ 7) → eqb t (k - 1) ≡ paired k (stack d st)
   unfolding paired endsSide
-  paired-close t e (inl h) = rw (e, h) (sym (and-true (eqb (top (opened d st)) 4)))
-  paired-close t e (inr h) = rw (e, h) (sym (and-true (eqb (top (opened d st)) 6)))
+  paired-close t e (inl h) = rw (e, h) (sym (and-true (eqb (top (stack d st)) 4)))
+  paired-close t e (inr h) = rw (e, h) (sym (and-true (eqb (top (stack d st)) 6)))
 
-  paired-else : ((k ≡ 5) ⊎ (k ≡ 7) → ⊥) → paired k (opened d st) ≡ implies (endsSide k) (eqb d 0)
+  paired-else : ((k ≡ 5) ⊎ (k ≡ 7) → ⊥) → paired k (stack d st) ≡ implies (endsSide k) (eqb d 0)
   unfolding paired
-  paired-else n = rw (ne-eqb k 5 (λ e. n (inl e)), ne-eqb k 7 (λ e. n (inr e)), opened-empty d st)
+  paired-else n = rw (ne-eqb k 5 (λ e. n (inl e)), ne-eqb k 7 (λ e. n (inr e)), stack-empty d st)
 
-  pub paired-none : ((k ≡ 5) ⊎ (k ≡ 7) → ⊥) → d ≡ 0 → eqb d 0 ≡ paired k (opened d st)
+  pub paired-none : ((k ≡ 5) ⊎ (k ≡ 7) → ⊥) → d ≡ 0 → eqb d 0 ≡ paired k (stack d st)
   paired-none n h = rw (paired-else n, h) (implies-true (endsSide k))
 
-  pub paired-some : (b : Bool) → b ≡ endsSide k → ((k ≡ 5) ⊎ (k ≡ 7) → ⊥) → (d ≡ 0 → ⊥) → not b ≡ paired k (opened d st)
+  pub paired-some : (b : Bool) → b ≡ endsSide k → ((k ≡ 5) ⊎ (k ≡ 7) → ⊥) → (d ≡ 0 → ⊥) → not b ≡ paired k (stack d st)
   paired-some b e n h = rw (e, paired-else n, ne-eqb d 0 h) (implies-false (endsSide k))
 
   -- a side ends with none open; a closing bracket finds one
-  pub end-none : paired k (opened d st) ≡ true → endsSide k ≡ true → d ≡ 0
+  pub end-none : paired k (stack d st) ≡ true → endsSide k ≡ true → d ≡ 0
   unfolding paired
   end-none h z =
-      let w : implies (endsSide k) (empty (opened d st)) ≡ true = and-right (implies (eqb k 7) (eqb (top (opened d st)) 6)) _ (and-right (implies (eqb k 5) (eqb (top (opened d st)) 4)) _ h) in
-      eqb-true d 0 (rw (z, opened-empty d st) at w)
+      let w : implies (endsSide k) (empty (stack d st)) ≡ true = and-right (implies (eqb k 7) (eqb (top (stack d st)) 6)) _ (and-right (implies (eqb k 5) (eqb (top (stack d st)) 4)) _ h) in
+      eqb-true d 0 (rw (z, stack-empty d st) at w)
 
-pub close-some : (k d : ℕ) (st : List ℕ) → (k ≡ 5) ⊎ (k ≡ 7) → paired k (opened d st) ≡ true → 0 < d
-unfolding paired opened
+pub close-some : (k d : ℕ) (st : List ℕ) → (k ≡ 5) ⊎ (k ≡ 7) → paired k (stack d st) ≡ true → 0 < d
+unfolding paired stack
 close-some k zero st (inl e) h = never (let w : false ≡ true = rw e at h in cc)
 close-some k zero st (inr e) h = never (let w : false ≡ true = rw e at h in cc)
 close-some k (suc d) st e h = omega arith
@@ -119,13 +90,13 @@ module _ (k d : ℕ) (st : List ℕ) where
   unfolding depthAfter stackAfter
   none-moves f g = rw (neither k 4 6 f, neither k 5 7 g) (refl, refl)
 
-  pub opened-after : d < length st → opened (depthAfter k d) (stackAfter k d st) ≡ opensAfter k (opened d st)
+  pub opened-after : d < length st → stack (depthAfter k d) (stackAfter k d st) ≡ opensAfter k (stack d st)
   unfolding depthAfter stackAfter opensAfter
   opened-after h =
       elim (see (eqb k 4 || eqb k 6)) [
-        | is-true z ↦ rw z (opened-push d k st h)
+        | is-true z ↦ rw z (stack-push d k st h)
         | is-false z ↦ elim (see (eqb k 5 || eqb k 7)) [
-          | is-true y ↦ rw (z, y) (opened-pop d st)
+          | is-true y ↦ rw (z, y) (stack-pop d st)
           | is-false y ↦ rw (z, y)
         ]
       ]

@@ -12,7 +12,8 @@ use Rattle.meaning.specs.Goodness.{Part, State as Stage, at, span, stands, impl
 use Rattle.meaning.proofs.Truth.{is-true, is-false, see, and-left, and-right, or-right, span-le}
 use Rattle.taking.specs.declared.State.{State}
 use Rattle.taking.specs.declared.Item.{Item}
-use Rattle.taking.specs.Standing.{numberOf, partOf, nextOf, opened, stackAfter, depthAfter, fresh, limitsOf, testsOf, Movable, movedTo, Means, Ready, Tells, Steps}
+use Rattle.kinds.specs.Stacks.{stack}
+use Rattle.taking.specs.Standing.{numberOf, partOf, nextOf, stackAfter, depthAfter, fresh, limitsOf, testsOf, Movable, movedTo, Means, Ready, Tells, Steps}
 use Rattle.taking.proofs.Parts.{part-number, number-small, idles, idles-all, stays, stays-all}
 use Rattle.taking.proofs.Tests.{alike, All, all, ends-high, under, count-side}
 use Rattle.taking.proofs.Opens.{end-none, opened-after, length-after, depth-le, depth-kept}
@@ -32,7 +33,7 @@ seventh false a r = refl
 
 -- the tests found f, 0 or the first that fails; new says whether the element is a fresh variable
 module _ (q : State) (e : Item) (st : List ℕ) (new : Bool) (en : new ≡ fresh (q .set) (e .kind) (e .value)) (f : ℕ)
-    (ef : f ≡ firstFailing 1 (testsOf q e (opened (q .depth) st) new)) where
+    (ef : f ≡ firstFailing 1 (testsOf q e (stack (q .depth) st) new)) where
   abbrev p : Part
   p = partOf (q .part)
 
@@ -40,7 +41,7 @@ module _ (q : State) (e : Item) (st : List ℕ) (new : Bool) (en : new ≡ fresh
   k = e .kind
 
   abbrev opens : List ℕ
-  opens = opened (q .depth) st
+  opens = stack (q .depth) st
 
   -- they are the tests of the definition
   module _ {s : Stage} {x : Element} (M : Means q st s) (I : Tells e x) where

@@ -13,8 +13,9 @@ use Rattle.meaning.proofs.Truth.{never, is-true, is-false, see, and-false, span
 use Rattle.kinds.specs.Slots.{slotOf, within, joined}
 use Rattle.taking.specs.declared.State.{State}
 use Rattle.taking.specs.declared.Item.{Item}
-use Rattle.taking.specs.Standing.{numberOf, partOf, nextOf, opened, fresh, limitsOf, movedTo}
-use Rattle.taking.proofs.Opens.{opened-empty}
+use Rattle.kinds.specs.Stacks.{stack}
+use Rattle.taking.specs.Standing.{numberOf, partOf, nextOf, fresh, limitsOf, movedTo}
+use Rattle.kinds.proofs.Stacks.{stack-empty}
 use Rattle.taking.proofs.Parts.{by-part, on-right, limit-is, sided-is, number-small}
 
 -- ---- what a call found, and what its test said
@@ -209,14 +210,14 @@ module _ (q : State) (e : Item) (to d : ℕ) (new : Bool) (n : ℕ) (en : n ≡ 
 
 -- ---- the end
 module _ (p d n : ℕ) (st : List ℕ) (vs : List Element) where
-  end-is : mayEnd (at (partOf p) (opened d st) n vs) ≡ cond (eqb p 0) (eqb d 0) (ltb 5 p)
+  end-is : mayEnd (at (partOf p) (stack d st) n vs) ≡ cond (eqb p 0) (eqb d 0) (ltb 5 p)
   unfolding mayEnd
   end-is =
-      by-part (λ q. mayEnd (at q (opened d st) n vs)) (λ m. cond (eqb m 0) (eqb d 0) (ltb 5 m)) (opened-empty d st) refl refl refl refl refl
+      by-part (λ q. mayEnd (at q (stack d st) n vs)) (λ m. cond (eqb m 0) (eqb d 0) (ltb 5 m)) (stack-empty d st) refl refl refl refl refl
       (λ m h. rw (ne-eqb m 0 (λ e. omega arith), lt-ltb 5 m h)) p
 
-  pub end-field : p ≡ 0 → eqb d 0 ≡ mayEnd (at (partOf p) (opened d st) n vs)
+  pub end-field : p ≡ 0 → eqb d 0 ≡ mayEnd (at (partOf p) (stack d st) n vs)
   end-field e = rw (end-is, e)
 
-  pub end-else : (p ≡ 0 → ⊥) → ltb 5 p ≡ mayEnd (at (partOf p) (opened d st) n vs)
+  pub end-else : (p ≡ 0 → ⊥) → ltb 5 p ≡ mayEnd (at (partOf p) (stack d st) n vs)
   end-else f = rw (end-is, ne-eqb p 0 f)

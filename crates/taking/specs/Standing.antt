@@ -1,14 +1,14 @@
 -- What the check's state by value stands for, and one step of the check.
 use mathlib.Core.Path.{_≡_}
 use mathlib.Core.Bool.{Bool, true, false, _&&_, _||_, not, cond}
-use mathlib.Core.Option.{Option}
 use mathlib.Core.List.{List, [], _∷_}
-use Prim.Native.Nat.{ℕ, zero, suc, _+_, _-_, _*_, _^_, _≤_, _<_}
+use Prim.Native.Nat.{ℕ, suc, _+_, _-_, _*_, _^_, _≤_, _<_}
 use lib.ListN.{length, getD, take, drop, set}
 use lib.Dec.{eqb, leb, ltb}
-use Rattle.meaning.specs.Elements.{Element, kind, body, among, elements}
-use Rattle.meaning.specs.Goodness.{Part, field, outside, start, left, right, after, ended, State as Stage, at, span, stands, implies, endsSide, paired, underLimit, onRight, fault, partAfter, sided, countAfter, stateAfter, firstBad}
+use Rattle.meaning.specs.Elements.{Element, kind, body, among}
+use Rattle.meaning.specs.Goodness.{Part, field, outside, start, left, right, after, ended, State as Stage, at, span, stands, implies, endsSide, paired, underLimit, onRight, fault, partAfter, sided, countAfter, stateAfter}
 use Rattle.kinds.specs.Slots.{slotOf, within, joined}
+use Rattle.kinds.specs.Stacks.{stack}
 use Rattle.taking.specs.declared.State.{State}
 use Rattle.taking.specs.declared.Item.{Item}
 use Rattle.taking.specs.declared.Taken.{Taken}
@@ -35,11 +35,6 @@ nextOf p k = cond (stands p k) (numberOf (partAfter p k)) 7
 -- the same as a table: a row for each part, a digit for each of 32 kinds
 pub record Leads (moves : List ℕ) : Type 0 where
   pub rule : (p k : ℕ) → p < 7 → k < 32 → getD moves (p * 32 + k) 0 ≡ 48 + nextOf (partOf p) k
-
--- the d open brackets at the front of a stack, the latest first
-unfoldable pub opened : ℕ → List ℕ → List ℕ
-opened zero st = []
-opened (suc d) st = getD st d 0 ∷ opened d st
 
 -- the stack, and how many are open, after an element of kind k
 unfoldable pub stackAfter : ℕ → ℕ → List ℕ → List ℕ
@@ -96,7 +91,7 @@ pub record Holds (slots number : ℕ) (vs : List Element) : Type 0 where
 -- the state q and its stack stand for the state s of the definition
 pub record Means (q : State) (st : List ℕ) (s : Stage) : Type 0 where
   pub vs : List Element
-  pub is : s ≡ at (partOf (q .part)) (opened (q .depth) st) (q .count) vs
+  pub is : s ≡ at (partOf (q .part)) (stack (q .depth) st) (q .count) vs
   pub holds : Holds (q .set) (q .number) vs
   pub part : q .part < 7
   -- each open bracket is an element of the side, so none is open outside of sides

@@ -7,7 +7,8 @@ ghost use lib.ListN.{length, replicate};
 ghost use lib.Dec.{leb, ltb};
 ghost use Rattle.meaning.specs.Elements.{Element};
 ghost use Rattle.meaning.specs.Goodness.{at, span, implies, endsSide, top, paired, underLimit, firstFailing, sided, countAfter, mayEnd, badProgram, badField};
-ghost use Rattle.taking.specs.Standing.{partOf, nextOf, Leads, opened, stackAfter, depthAfter, fresh, limitsOf, testsOf, Movable, movedTo, Ready, Steps};
+ghost use Rattle.kinds.specs.Stacks.{stack as opened};
+ghost use Rattle.taking.specs.Standing.{partOf, nextOf, Leads, stackAfter, depthAfter, fresh, limitsOf, testsOf, Movable, movedTo, Ready, Steps};
 
 // Where reading stands: the part, the open brackets, the elements of this side so far, and the left side's variables, as a set and their number.
 pub struct State {

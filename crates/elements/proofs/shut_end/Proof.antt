@@ -1,56 +1,66 @@
-use Rattle.elements.proofs.Levels.{Seeking, characters-on, seek-start, seek-inside, seek-on, seek-over, seek-shut, seek-level, seek-done}
-use lib.ListN.{length}
-use native.Mathlib.Omega.{arith}
+use mathlib.Core.Path.{_≡_, sym, _∙_}
 use Prim.Native.Nat.{_-_}
-use mathlib.Core.Path.{_≡_}
+use native.Mathlib.Omega.{arith}
+use lib.ListN.{length}
 use borrow.Author.Needs.{needs}
+use Rattle.elements.proofs.Levels.{Seeking, seek-start, seek-on, seek-over, seek-shut, seek-done}
 use Rattle.elements.proofs.shut_end.Statement.{statement}
 use Rattle.elements.proofs.shut_end.Tie as tie
 
 abbrev Inv-loop : tie.InvT-loop
-Inv-loop s at i₀ depth₀ i depth = Seeking s at i depth
+Inv-loop s at c₀ depth₀ c depth = Seeking s at (c .at) depth
 
 abbrev μ-loop : tie.MeasureT-loop
-μ-loop s at i₀ depth₀ i depth = length s - i
+μ-loop s at c₀ depth₀ c depth = length s - c .at
 
 loop-holds : tie.Need-loop-holds Inv-loop μ-loop
 loop-holds c = seek-start _ _ (c .before .pre)
 
-characters-end-requires : tie.Need-characters-end-requires Inv-loop μ-loop
-characters-end-requires c κs = (seek-level (c .before .loop .inv), omega arith)
+past-characters-requires : tie.Need-past-characters-requires Inv-loop μ-loop
+past-characters-requires c κs = (c .before .loop .inv .fits, omega arith)
 
-shared-slice-read-k : tie.Need-shared-slice-read-k Inv-loop μ-loop
-shared-slice-read-k c = seek-inside _ _ _ _ (seek-over (c .before .before .before .loop .inv) (c .before .before .loop-test .taken) (c .before .characters-end .ensures)) (c .before .before .loop-test .taken)
+pass-requires : tie.Need-pass-requires Inv-loop μ-loop
+pass-requires c κs = seek-over (c .before .before .loop .inv) (c .before .loop-test .taken) (c .past-characters .ensures) .inside
 
 sub-depth : tie.Need-sub-depth Inv-loop μ-loop
-sub-depth c = omega arith
+sub-depth c = search needs
 
-add-i : tie.Need-add-i Inv-loop μ-loop
-add-i c = omega (arith, seek-inside _ _ _ _ (seek-over (c .before .before .before .before .loop .inv) (c .before .before .before .loop-test .taken) (c .before .before .characters-end .ensures)) (c .before .before .before .loop-test .taken))
+add-t8 : tie.Need-add-t8 Inv-loop μ-loop
+add-t8 c =
+    let r = c .before .before .before .before in
+    let o = seek-over (r .before .before .loop .inv) (r .before .loop-test .taken) (r .past-characters .ensures) in
+    omega (arith, o .inside)
 
 loop-less : tie.Need-loop-less Inv-loop μ-loop
-loop-less c = omega (arith, seek-inside _ _ _ _ (seek-over (c .before .before .before .before .loop .inv) (c .before .before .before .loop-test .taken) (c .before .before .characters-end .ensures)) (c .before .before .before .loop-test .taken), characters-on (c .before .before .characters-end .ensures))
+loop-less c =
+    let r = c .before .before .before .before in
+    let o = seek-over (r .before .before .loop .inv) (r .before .loop-test .taken) (r .past-characters .ensures) in
+    omega (arith, o .on, o .inside)
 
 loop-again : tie.Need-loop-again Inv-loop μ-loop
-loop-again c = seek-shut (seek-over (c .before .before .before .before .loop .inv) (c .before .before .before .loop-test .taken) (c .before .before .characters-end .ensures)) (c .before .before .before .loop-test .taken) (c .if1 .taken)
+loop-again c =
+    let r = c .before .before .before .before in
+    let o = seek-over (r .before .before .loop .inv) (r .before .loop-test .taken) (r .past-characters .ensures) in
+    seek-shut (o .seeking) (r .before .loop-test .taken) (sym (c .before .before .before .pass .ensures .kind-is) ∙ c .before .if1 .taken)
 
 depth-after-requires : tie.Need-depth-after-requires Inv-loop μ-loop
-depth-after-requires c κs = (omega arith, omega (arith, (seek-over (c .before .before .before .before .loop .inv) (c .before .before .before .loop-test .taken) (c .before .before .characters-end .ensures)) .few, (seek-over (c .before .before .before .before .loop .inv) (c .before .before .before .loop-test .taken) (c .before .before .characters-end .ensures)) .behind, seek-inside _ _ _ _ (seek-over (c .before .before .before .before .loop .inv) (c .before .before .before .loop-test .taken) (c .before .before .characters-end .ensures)) (c .before .before .before .loop-test .taken)))
-
-add-i-2 : tie.Need-add-i-2 Inv-loop μ-loop
-add-i-2 c = omega (arith, seek-inside _ _ _ _ (seek-over (c .before .before .before .before .before .loop .inv) (c .before .before .before .before .loop-test .taken) (c .before .before .before .characters-end .ensures)) (c .before .before .before .before .loop-test .taken))
-
-body-of-requires : tie.Need-body-of-requires Inv-loop μ-loop
-body-of-requires c κs = search needs
-
-add-i-3 : tie.Need-add-i-3 Inv-loop μ-loop
-add-i-3 c = omega (arith, seek-inside _ _ _ _ (seek-over (c .before .before .before .before .before .before .loop .inv) (c .before .before .before .before .before .loop-test .taken) (c .before .before .before .before .characters-end .ensures)) (c .before .before .before .before .before .loop-test .taken), c .body-of .ensures .1)
+depth-after-requires c κs =
+    let r = c .before .before .before in
+    let o = seek-over (r .before .before .loop .inv) (r .before .loop-test .taken) (r .past-characters .ensures) in
+    (omega arith, omega (arith, o .inside, o .seeking .few, o .seeking .behind))
 
 loop-less-2 : tie.Need-loop-less-2 Inv-loop μ-loop
-loop-less-2 c = omega (arith, seek-inside _ _ _ _ (seek-over (c .before .before .before .before .before .before .loop .inv) (c .before .before .before .before .before .loop-test .taken) (c .before .before .before .before .characters-end .ensures)) (c .before .before .before .before .before .loop-test .taken), characters-on (c .before .before .before .before .characters-end .ensures), seek-on _ _ _ _ (seek-over (c .before .before .before .before .before .before .loop .inv) (c .before .before .before .before .before .loop-test .taken) (c .before .before .before .before .characters-end .ensures)) (c .before .before .before .before .before .loop-test .taken) .fits, c .body-of .ensures .0)
+loop-less-2 c =
+    let r = c .before .before .before .before .before in
+    let o = seek-over (r .before .before .loop .inv) (r .before .loop-test .taken) (r .past-characters .ensures) in
+    omega (arith, o .on, o .inside, c .before .before .before .before .pass .ensures .next-is)
 
 loop-again-2 : tie.Need-loop-again-2 Inv-loop μ-loop
-loop-again-2 c = rw (c .before .depth-after .ensures, c .body-of .ensures .0) (seek-on _ _ _ _ (seek-over (c .before .before .before .before .before .before .loop .inv) (c .before .before .before .before .before .loop-test .taken) (c .before .before .before .before .characters-end .ensures)) (c .before .before .before .before .before .loop-test .taken))
+loop-again-2 c =
+    let p = c .before .before .before .before in
+    let r = p .before in
+    let o = seek-over (r .before .before .loop .inv) (r .before .loop-test .taken) (r .past-characters .ensures) in
+    rw (c .before .depth-after .ensures, p .pass .ensures .next-is, p .pass .ensures .kind-is) (seek-on _ _ _ _ (o .seeking) (r .before .loop-test .taken))
 
 returns : tie.Need-returns Inv-loop μ-loop
 returns c = seek-done _ _ _ (let e : c .before .loop .depth ≡ 0 = omega arith in rw e at (c .before .loop .inv))
@@ -62,16 +72,13 @@ shut-end-spec =
     Inv-loop
     μ-loop
     loop-holds
-    characters-end-requires
-    shared-slice-read-k
+    past-characters-requires
+    pass-requires
     sub-depth
-    add-i
+    add-t8
     loop-less
     loop-again
     depth-after-requires
-    add-i-2
-    body-of-requires
-    add-i-3
     loop-less-2
     loop-again-2
     returns)

@@ -35,14 +35,14 @@ enum-known-next c = search needs
 run-end-requires : tie.Need-run-end-requires Inv-loop μ-loop
 run-end-requires c κs = (c .before .before .before .before .before .before .before .before .before .pre .1 .fits, term-less (rw (c .before .next .given .1) at (c .before .before .before .term-end .ensures)) .1)
 
-characters-end-requires : tie.Need-characters-end-requires Inv-loop μ-loop
-characters-end-requires c κs = ((skipped-level (c .before .before .before .before .before .before .before .before .before .before .pre .0) (term-more (c .before .before .before .before .before .before .before .loop .inv) (barred-there (rw (c .before .before .before .before .before .if1 .left) at (c .before .before .before .before .before .before .can-end .ensures))) (rw (c .before .before .next .given .1) at (c .before .before .before .before .term-end .ensures)))), c .run-end .ensures .fits)
+past-characters-requires : tie.Need-past-characters-requires Inv-loop μ-loop
+past-characters-requires c κs = (term-less (rw (c .before .before .next .given .1) at (c .before .before .before .before .term-end .ensures)) .1, c .run-end .ensures .fits)
 
 loop-less : tie.Need-loop-less Inv-loop μ-loop
-loop-less c = omega (arith, term-less (rw (c .before .before .before .next .given .1) at (c .before .before .before .before .before .term-end .ensures)), characters-on (c .characters-end .ensures))
+loop-less c = omega (arith, term-less (rw (c .before .before .before .next .given .1) at (c .before .before .before .before .before .term-end .ensures)), characters-on (c .past-characters .ensures))
 
 loop-again : tie.Need-loop-again Inv-loop μ-loop
-loop-again c = over-characters (c .before .before .before .before .before .before .before .before .before .before .before .pre .1) (c .before .before .before .before .before .before .before .before .before .stop-of .ensures) (c .before .run-end .ensures) (skipped-level (c .before .before .before .before .before .before .before .before .before .before .before .pre .0) (term-more (c .before .before .before .before .before .before .before .before .loop .inv) (barred-there (rw (c .before .before .before .before .before .before .if1 .left) at (c .before .before .before .before .before .before .before .can-end .ensures))) (rw (c .before .before .before .next .given .1) at (c .before .before .before .before .before .term-end .ensures)))) (term-more (c .before .before .before .before .before .before .before .before .loop .inv) (barred-there (rw (c .before .before .before .before .before .before .if1 .left) at (c .before .before .before .before .before .before .before .can-end .ensures))) (rw (c .before .before .before .next .given .1) at (c .before .before .before .before .before .term-end .ensures))) (c .characters-end .ensures)
+loop-again c = over-characters (c .before .before .before .before .before .before .before .before .before .before .before .pre .1) (c .before .before .before .before .before .before .before .before .before .stop-of .ensures) (c .before .run-end .ensures) (skipped-level (c .before .before .before .before .before .before .before .before .before .before .before .pre .0) (term-more (c .before .before .before .before .before .before .before .before .loop .inv) (barred-there (rw (c .before .before .before .before .before .before .if1 .left) at (c .before .before .before .before .before .before .before .can-end .ensures))) (rw (c .before .before .before .next .given .1) at (c .before .before .before .before .before .term-end .ensures)))) (term-more (c .before .before .before .before .before .before .before .before .loop .inv) (barred-there (rw (c .before .before .before .before .before .before .if1 .left) at (c .before .before .before .before .before .before .before .can-end .ensures))) (rw (c .before .before .before .next .given .1) at (c .before .before .before .before .before .term-end .ensures))) (c .past-characters .ensures)
 
 enum-told : tie.Need-enum-told Inv-loop μ-loop
 enum-told c = search needs
@@ -63,7 +63,7 @@ next-end-spec =
     term-end-requires
     enum-known-next
     run-end-requires
-    characters-end-requires
+    past-characters-requires
     loop-less
     loop-again
     enum-told

@@ -1,4 +1,4 @@
-use Rattle.taking.proofs.Opens.{top-none, top-some}
+use Rattle.kinds.proofs.Stacks.{top-none, top-some}
 use borrow.Author.Needs.{needs}
 use Rattle.taking.proofs.top_of.Statement.{statement}
 use Rattle.taking.proofs.top_of.Tie as tie
