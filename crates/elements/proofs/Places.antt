@@ -6,17 +6,17 @@ use Prim.Native.Nat.{ℕ, zero, suc, _+_, _-_, _^_, _≤_, _<_}
 use native.Mathlib.Omega.{arith}
 use lib.ListN.{length, getD, take, drop, length-append, length-take, length-drop, drop-of-length-le}
 use lib.Dec.{T, leb}
-use borrow.Author.Tests.{leb-true, leb-false, le-leb, lt-leb}
+use borrow.Author.Tests.{leb-true, leb-false}
 use Rattle.meaning.specs.Elements.{kind, body, cut, elements, join, isSymbol}
 use Rattle.meaning.specs.Goodness.{span}
 use Rattle.meaning.specs.Matching.{Terms, symbol, bracket}
-use Rattle.meaning.proofs.Truth.{never, and-left, and-right, T-true, is-true, is-false, see}
+use Rattle.meaning.proofs.Truth.{never, and-left, and-right, T-true, is-true, is-false, see, span-le}
 use Rattle.meaning.proofs.Cutting.{cut-at, join-cut, join-append}
 use Rattle.elements.specs.declared.Element.{Element}
 use Rattle.elements.specs.declared.Reading.the-variants.{Got, Unknown, Cut, End}
 use Rattle.elements.specs.declared.Found.the-variants.{Nothing}
 use Rattle.elements.specs.Bytes.{kindOf, numberOf, digits, bytesOf}
-use Rattle.elements.specs.Reading.{Splits, ReadAt, over, unknown, short, got, Balanced, symbols, opening, closing, SymbolEnd, no-symbol, TermEnd, no-term, ProperAt}
+use Rattle.elements.specs.Reading.{Splits, Begun, ReadAt, over, unknown, short, got, Balanced, symbols, opening, closing, SymbolEnd, no-symbol, TermEnd, no-term, ProperAt}
 
 -- an element without a body has the number 0
 pub no-number : (k j n : ℕ) → k ≡ j → body j ≡ 0 → n < 256 ^ body k → 0 ≡ n
@@ -71,18 +71,6 @@ module _ (s : List ℕ) (at : ℕ) (h : at < length s) where
   bare-whole b q z = ap length q ∙ (let e : getD s at 0 ≡ b = sym kind-here ∙ ap kind q in rw (e, z))
 
   -- what a cursor reads
-  pub read-low : getD s at 0 ≡ 0 → ReadAt s at Unknown
-  unfolding span
-  read-low z = unknown h (rw z)
-
-  pub read-high : 15 < getD s at 0 → ReadAt s at Unknown
-  unfolding span
-  read-high z = unknown h (rw (le-leb 1 (getD s at 0) (omega arith), lt-leb (getD s at 0) 15 z))
-
-  pub read-short : (getD s at 0 ≡ 0 → ⊥) → getD s at 0 ≤ 15 → length s - at ≤ body (getD s at 0) → ReadAt s at Cut
-  unfolding span
-  read-short n l z = short h (rw (le-leb 1 (getD s at 0) (omega arith), le-leb (getD s at 0) 15 l)) z
-
   pub read-got : (w n : ℕ) (x : Element) → w ≡ body (getD s at 0) → w < length s - at → digits w n ≡ take w (drop (at + 1) s) → n < 256 ^ w
       → kindOf x ≡ getD s at 0 → numberOf x ≡ n → ReadAt s at (Got x (record { at = at + 1 + w }))
   unfolding here
@@ -90,6 +78,16 @@ module _ (s : List ℕ) (at : ℕ) (h : at < length s) where
       let e : bytesOf x ≡ here = rw (ek, en, ← ew, d) in
       let r : length here ≡ suc (body (getD s at 0)) = simp (length-take, length-drop) (omega arith) in
       got {x = x} {c = record { at = at + 1 + w }} (rw (ek, en, ← ew) b) (omega arith) (rw (e, ew) (splits-here r))
+
+-- where a known kind stands
+pub begun : {s : List ℕ} {at : ℕ} (k : ℕ) → at < length s → getD s at 0 ≡ k → span 1 15 k ≡ true → Begun s at k (body k)
+begun k h e z = record { inside = h; kind-is = e; known = z; width = refl }
+
+pub up : (a : ℕ) {k : ℕ} → a ≤ k → (k ≡ a → ⊥) → suc a ≤ k
+up a h n = omega arith
+
+pub no-kind : (k : ℕ) → (1 ≤ k → k ≤ 15 → ⊥) → span 1 15 k ≡ false
+no-kind k n = elim (see (span 1 15 k)) [ is-true z ↦ absurd (let w = span-le 1 15 k z in n (w .0) (w .1)) | is-false z ↦ z ]
 
 -- where a whole element stands
 module _ {s : List ℕ} {at : ℕ} (p : ProperAt s at) where

@@ -4,7 +4,7 @@ ghost use Prim.Native.Nat.{_+_, _-_, _^_, _<_, _≤_};
 ghost use lib.ListN.{length, getD, take, drop};
 ghost use Rattle.meaning.specs.Elements.{body, elements};
 ghost use Rattle.elements.specs.Bytes.{kindOf, numberOf, digits, bytesOf, Told};
-ghost use Rattle.elements.specs.Reading.{ReadAt, Proper, PassedOver, Level, depthAfter, Characters, Shutting, Shut, SymbolEnd, TermEnd, ProperAt, Shared, Comparing};
+ghost use Rattle.elements.specs.Reading.{Begun, ReadAt, Proper, PassedOver, Level, depthAfter, Characters, Shutting, Shut, SymbolEnd, TermEnd, ProperAt, Shared, Comparing};
 
 // An element: fifteen kinds, with the number in the body where there is one.
 pub enum Element {
@@ -49,7 +49,8 @@ pub enum Found {
     Nothing,
 }
 
-fn kind_of(x: Element) -> u8
+// The kind's byte.
+pub fn kind_of(x: Element) -> u8
     ensures { λ r. ⌜ r ≡ kindOf x ⌝ }
 {
     match x {
@@ -71,7 +72,8 @@ fn kind_of(x: Element) -> u8
     }
 }
 
-fn number_of(x: Element) -> u32
+// The number in the body, or 0.
+pub fn number_of(x: Element) -> u32
     ensures { λ r. ⌜ r ≡ numberOf x ⌝ }
 {
     match x {
@@ -153,8 +155,22 @@ fn number_at(s: &[u8], at: usize, width: usize) -> u32
     low + word(s, at + 2) * 65536
 }
 
+// The element of kind k at a place, if its body is not cut short.
+fn read_body(s: &[u8], at: usize, k: u8, width: usize) -> Reading
+    requires { ⌜ Begun (now s) at k width ⌝ }
+    ensures { λ r. ⌜ ReadAt (now (s .entry)) at r ⌝ }
+{
+    if s.len() - at <= width {
+        return Reading::Cut;
+    }
+    Reading::Got(
+        make(k, number_at(s, at + 1, width)),
+        Cursor { at: at + 1 + width },
+    )
+}
+
 impl Cursor {
-    // Reads one element, and hands the moved cursor back.
+    // Reads one element, and hands the moved cursor back. Each kind has its line, so that the width is known where the body is read.
     pub fn read(self, s: &[u8]) -> Reading
         ensures { λ r. ⌜ ReadAt (now (s .entry)) (self .at) r ⌝ }
     {
@@ -162,21 +178,24 @@ impl Cursor {
         if s.len() <= at {
             return Reading::End;
         }
-        let k = s[at];
-        if k == 0 {
-            return Reading::Unknown;
+        match s[at] {
+            1 => read_body(s, at, 1, 1),
+            2 => read_body(s, at, 2, 2),
+            3 => read_body(s, at, 3, 4),
+            4 => read_body(s, at, 4, 0),
+            5 => read_body(s, at, 5, 0),
+            6 => read_body(s, at, 6, 2),
+            7 => read_body(s, at, 7, 0),
+            8 => read_body(s, at, 8, 1),
+            9 => read_body(s, at, 9, 1),
+            10 => read_body(s, at, 10, 1),
+            11 => read_body(s, at, 11, 0),
+            12 => read_body(s, at, 12, 0),
+            13 => read_body(s, at, 13, 2),
+            14 => read_body(s, at, 14, 0),
+            15 => read_body(s, at, 15, 0),
+            _ => Reading::Unknown,
         }
-        if 15 < k {
-            return Reading::Unknown;
-        }
-        let width = kinds::body_of(k);
-        if s.len() - at <= width {
-            return Reading::Cut;
-        }
-        Reading::Got(
-            make(k, number_at(s, at + 1, width)),
-            Cursor { at: at + 1 + width },
-        )
     }
 
     // Passes over one element by its kind alone, and hands the moved cursor back: past the end, where the element is cut short.
