@@ -13,6 +13,7 @@ use Rattle.meaning.specs.Matching.{Terms, symbol, bracket}
 use Rattle.meaning.proofs.Truth.{never, and-left, and-right, T-true, is-true, is-false, see, span-le}
 use Rattle.meaning.proofs.Cutting.{cut-at, join-cut, join-append}
 use Rattle.elements.specs.declared.Element.{Element}
+use Rattle.elements.specs.declared.Element.the-variants.{Character, Name, Macrodigit, Open, Close, Call, Return, SVariable, TVariable, EVariable, Equals, SentenceEnd, Header, FunctionEnd, ProgramEnd}
 use Rattle.elements.specs.declared.Reading.the-variants.{Got, Unknown, Cut, End}
 use Rattle.elements.specs.declared.Found.the-variants.{Nothing}
 use Rattle.elements.specs.Bytes.{kindOf, numberOf, digits, bytesOf}
@@ -78,6 +79,28 @@ module _ (s : List ℕ) (at : ℕ) (h : at < length s) where
       let e : bytesOf x ≡ here = rw (ek, en, ← ew, d) in
       let r : length here ≡ suc (body (getD s at 0)) = simp (length-take, length-drop) (omega arith) in
       got {x = x} {c = record { at = at + 1 + w }} (rw (ek, en, ← ew) b) (omega arith) (rw (e, ew) (splits-here r))
+
+-- each element has a known kind
+pub known-kind : (x : Element) → span 1 15 (kindOf x) ≡ true
+unfolding span
+known-kind (Character n) = refl
+known-kind (Name n) = refl
+known-kind (Macrodigit n) = refl
+known-kind Open = refl
+known-kind Close = refl
+known-kind (Call n) = refl
+known-kind Return = refl
+known-kind (SVariable n) = refl
+known-kind (TVariable n) = refl
+known-kind (EVariable n) = refl
+known-kind Equals = refl
+known-kind SentenceEnd = refl
+known-kind (Header n) = refl
+known-kind FunctionEnd = refl
+known-kind ProgramEnd = refl
+
+pub known-as : (x : Element) {k : ℕ} → k ≡ kindOf x → span 1 15 k ≡ true
+known-as x e = rw e (known-kind x)
 
 -- where a known kind stands
 pub begun : {s : List ℕ} {at : ℕ} (k : ℕ) → at < length s → getD s at 0 ≡ k → span 1 15 k ≡ true → Begun s at k (body k)

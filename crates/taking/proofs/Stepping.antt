@@ -1,21 +1,25 @@
 -- A step of the check is a step of the definition.
 use mathlib.Core.Path.{_≡_, refl, sym, _∙_, ap}
 use mathlib.Core.Bool.{Bool, true, false, _&&_, _||_, not}
-use mathlib.Core.List.{List}
-use Prim.Native.Nat.{ℕ, _+_, _^_, _≤_, _<_}
+use mathlib.Core.List.{List, _∷_}
+use Prim.Native.Nat.{ℕ, suc, _+_, _^_, _≤_, _<_}
 use native.Mathlib.Omega.{arith}
 use lib.ListN.{length, getD}
 use lib.Dec.{eqb, leb}
-use borrow.Author.Tests.{not-true, leb-true, ltb-true}
-use Rattle.meaning.specs.Elements.{Element, kind, among, isVariable}
+use borrow.Author.Tests.{not-true, eq-eqb, leb-true, ltb-true}
+use Rattle.meaning.specs.Elements.{Element, kind, body, among, isVariable}
 use Rattle.meaning.specs.Goodness.{Part, State as Stage, at, span, stands, implies, endsSide, paired, underLimit, onRight, firstFailing, tests, fault, partAfter, sided, variablesAfter, stateAfter}
 use Rattle.meaning.proofs.Truth.{is-true, is-false, see, and-left, and-right, or-right, span-le}
 use Rattle.taking.specs.declared.State.{State}
-use Rattle.taking.specs.declared.Item.{Item}
 use Rattle.kinds.specs.Stacks.{stack}
-use Rattle.taking.specs.Standing.{numberOf, partOf, nextOf, stackAfter, depthAfter, fresh, limitsOf, testsOf, Movable, movedTo, Means, Ready, Tells, Steps}
+use Rattle.elements.specs.declared.Element.{Element as Read}
+use Rattle.elements.specs.Bytes.{kindOf, numberOf, bytesOf}
+use Rattle.elements.proofs.Digits.{digits-one, digits-length}
+use Rattle.elements.proofs.Places.{known-kind}
+use Rattle.kinds.proofs.Bodies.{body-var}
+use Rattle.taking.specs.Standing.{numberOf as partNumber, partOf, nextOf, stackAfter, depthAfter, fresh, limitsOf, testsOf, Movable, movedTo, Means, Ready, Tells, Steps}
 use Rattle.taking.proofs.Parts.{part-number, number-small, idles, idles-all, stays, stays-all}
-use Rattle.taking.proofs.Tests.{alike, All, all, ends-high, under, count-side}
+use Rattle.taking.proofs.Tests.{passes, alike, All, all, ends-high, under, count-side}
 use Rattle.taking.proofs.Opens.{end-none, opened-after, length-after, depth-le, depth-kept}
 use Rattle.taking.proofs.Variables.{is-variable, fresh-is, holds-after}
 
@@ -32,75 +36,73 @@ seventh true false false = refl
 seventh false a r = refl
 
 -- the tests found f, 0 or the first that fails; new says whether the element is a fresh variable
-module _ (q : State) (e : Item) (st : List ℕ) (new : Bool) (en : new ≡ fresh (q .set) (e .kind) (e .value)) (f : ℕ)
-    (ef : f ≡ firstFailing 1 (testsOf q e (stack (q .depth) st) new)) where
+module _ (q : State) (k v : ℕ) (st : List ℕ) (new : Bool) (en : new ≡ fresh (q .set) k v) (f : ℕ)
+    (ef : f ≡ firstFailing 3 (testsOf q k v (stack (q .depth) st) new)) where
   abbrev p : Part
   p = partOf (q .part)
-
-  abbrev k : ℕ
-  k = e .kind
 
   abbrev opens : List ℕ
   opens = stack (q .depth) st
 
   -- they are the tests of the definition
-  module _ {s : Stage} {x : Element} (M : Means q st s) (I : Tells e x) where
+  module _ {s : Stage} {x : Element} (M : Means q st s) (I : Tells k v x) where
     var-is : isVariable x ≡ span 8 10 k
     var-is = is-variable x ∙ ap (span 8 10) (I .kind-is)
 
-    fourth : e .whole ≡ true → implies (isVariable x) (leb (getD x 1 0) 15) ≡ implies (span 8 10 k) (leb (e .value) 15)
-    fourth w =
+    fourth : implies (isVariable x) (leb (getD x 1 0) 15) ≡ implies (span 8 10 k) (leb v 15)
+    fourth =
         elim (see (span 8 10 k)) [
           | is-false z ↦ rw (var-is, z)
-          | is-true z ↦ rw (var-is, z, I .pair w z)
+          | is-true z ↦ rw (var-is, z, I .pair z)
         ]
 
-    new-is : e .whole ≡ true → implies (span 8 10 k) (leb (e .value) 15) ≡ true → new ≡ (isVariable x && not (among x (M .vs)))
-    new-is w u = en ∙ fresh-is (q .set) (q .number) (M .vs) k (e .value) x (M .holds) (I .kind-is) (I .pair w) u
+    new-is : implies (span 8 10 k) (leb v 15) ≡ true → new ≡ (isVariable x && not (among x (M .vs)))
+    new-is u = en ∙ fresh-is (q .set) (q .number) (M .vs) k v x (M .holds) (I .kind-is) (I .pair) u
 
-    same : fault s x ≡ firstFailing 1 (testsOf q e opens new)
+    whole : eqb (length x) (suc (body (kind x))) ≡ true
+    whole = eq-eqb (length x) (suc (body (kind x))) (rw (I .kind-is) (I .whole-is))
+
+    same : fault s x ≡ firstFailing 3 (testsOf q k v opens new)
     unfolding fault tests testsOf limitsOf
     same =
         rw (M .is)
-        (alike 1 _ _ _ (ap (span 1 15) (I .kind-is)) λ _.
-        alike 2 _ _ _ (I .whole-is) λ w.
+        (sym (passes 1 _ (rw (I .kind-is) (I .known)) (passes 2 _ whole refl)) ∙
         alike 3 _ _ _ (ap (stands p) (I .kind-is)) λ _.
-        alike 4 _ _ _ (fourth w) λ u.
+        alike 4 _ _ _ fourth λ u.
         alike 5 _ _ _ (ap (λ (n : ℕ). paired n opens) (I .kind-is)) λ _.
-        alike 6 _ _ _ (rw (I .kind-is, new-is w u, M .holds .counted) (ap (λ (b : Bool). (endsSide k || underLimit p (q .count)) && b) (sixth (isVariable x) (among x (M .vs)) (onRight p) _))) λ _.
-        alike 7 _ _ _ (rw (new-is w u) (seventh (isVariable x) (among x (M .vs)) (onRight p))) λ _.
+        alike 6 _ _ _ (rw (I .kind-is, new-is u, M .holds .counted) (ap (λ (b : Bool). (endsSide k || underLimit p (q .count)) && b) (sixth (isVariable x) (among x (M .vs)) (onRight p) _))) λ _.
+        alike 7 _ _ _ (rw (new-is u) (seventh (isVariable x) (among x (M .vs)) (onRight p))) λ _.
         refl)
 
     fault-same : f ≡ fault s x
     fault-same = ef ∙ sym same
 
-  pub refused : (f ≡ 0 → ⊥) → Steps q e st (record { fault = f; next = q }) st
+  pub refused : (f ≡ 0 → ⊥) → Steps q k v st (record { fault = f; next = q }) st
   refused n = record { fault-is = λ M I. fault-same M I; next-is = λ M I z. absurd (n z); stack-is = λ z. absurd (n z); kept = λ z. (refl, refl) }
 
   -- none fails
-  module _ (none : f ≡ 0) (R : Ready q st) where
-    passed : All (testsOf q e opens new)
-    passed = all 0 (testsOf q e opens new) (sym ef ∙ none)
+  module _ (none : f ≡ 0) (R : Ready q st) (known : span 1 15 k ≡ true) where
+    passed : All (testsOf q k v opens new)
+    passed = all 2 (testsOf q k v opens new) (sym ef ∙ none)
 
     kind-small : k < 16
-    unfolding testsOf
-    kind-small = let z = span-le 1 15 k (passed .0) in omega arith
+    kind-small = let z = span-le 1 15 k known in omega arith
 
     stood : stands p k ≡ true
     unfolding testsOf
-    stood = passed .1 .1 .0
+    stood = passed .0
 
-    numbered : implies (span 8 10 k) (leb (e .value) 15) ≡ true
+    numbered : implies (span 8 10 k) (leb (v) 15) ≡ true
     unfolding testsOf
-    numbered = passed .1 .1 .1 .0
+    numbered = passed .1 .0
 
     pairs : paired k opens ≡ true
     unfolding testsOf
-    pairs = passed .1 .1 .1 .1 .0
+    pairs = passed .1 .1 .0
 
     limits : All (limitsOf q k new)
     unfolding testsOf
-    limits = passed .1 .1 .1 .1 .1
+    limits = passed .1 .1 .1
 
     not-full : endsSide k ≡ false → underLimit p (q .count) ≡ true
     unfolding limitsOf
@@ -114,12 +116,12 @@ module _ (q : State) (e : Item) (st : List ℕ) (new : Bool) (en : new ≡ fresh
     unfolding limitsOf
     not-right z = not-true (onRight p) (rw z at (limits .1 .0))
 
-    new-fits : new ≡ true → (8 ≤ k) × (k ≤ 10) × (e .value ≤ 15) × (q .number < 16)
+    new-fits : new ≡ true → (8 ≤ k) × (k ≤ 10) × (v ≤ 15) × (q .number < 16)
     unfolding limitsOf
     new-fits z =
         let r = span-le 8 10 k (is-var z) in
         let l = and-right (endsSide k || underLimit p (q .count)) _ (limits .0) in
-        (r .0, r .1, leb-true (e .value) 15 (rw (is-var z) at numbered), ltb-true (q .number) 16 (rw (z, not-right z) at l))
+        (r .0, r .1, leb-true (v) 15 (rw (is-var z) at numbered), ltb-true (q .number) 16 (rw (z, not-right z) at l))
 
     deep-count : q .depth ≤ q .count
     deep-count =
@@ -148,11 +150,11 @@ module _ (q : State) (e : Item) (st : List ℕ) (new : Bool) (en : new ≡ fresh
     pub can-open : (q .depth < length st) × (paired k opens ≡ true)
     can-open = (depth-fits, pairs)
 
-    pub can-move : length st < 2 ^ 64 → Movable q e new
+    pub can-move : length st < 2 ^ 64 → Movable q k v new
     can-move l = (count-fits l, new-fits)
 
     module _ (to : ℕ) (et : k < 32 → to ≡ nextOf p k) where
-      to-is : to ≡ numberOf (partAfter p k)
+      to-is : to ≡ partNumber (partAfter p k)
       unfolding nextOf
       to-is = et (let z = kind-small in omega arith) ∙ rw stood
 
@@ -173,13 +175,13 @@ module _ (q : State) (e : Item) (st : List ℕ) (new : Bool) (en : new ≡ fresh
           let w : implies (span 8 10 k && not (onRight p)) (not (onRight (partAfter p k))) ≡ true = stays-all (q .part) k (R .means .part) kind-small in
           not-true (onRight (partAfter p k)) (rw (is-var z, not-right z) at w)
 
-      after : {s : Stage} {x : Element} → Means q st s → Tells e x → Means (movedTo q e to (depthAfter k (q .depth)) new) (stackAfter k (q .depth) st) (stateAfter s x)
+      after : {s : Stage} {x : Element} → Means q st s → Tells k v x → Means (movedTo q k v to (depthAfter k (q .depth)) new) (stackAfter k (q .depth) st) (stateAfter s x)
       unfolding movedTo stateAfter testsOf
       after {s} {x} M I =
           record {
             vs = variablesAfter (partAfter p k) x (M .vs);
             is = rw (M .is, I .kind-is, part-next, opened-after k (q .depth) st depth-fits);
-            holds = rw (to-is, en) (holds-after (q .set) (q .number) (M .vs) k (e .value) x (M .holds) (I .kind-is) (I .pair (passed .1 .0)) numbered (partAfter p k) (λ z. left-still (en ∙ z)));
+            holds = rw (to-is, en) (holds-after (q .set) (q .number) (M .vs) k (v) x (M .holds) (I .kind-is) (I .pair) numbered (partAfter p k) (λ z. left-still (en ∙ z)));
             part = omega (arith, to-is, number-small (partAfter p k));
             deep =
                 elim (see (endsSide k)) [
@@ -204,8 +206,8 @@ module _ (q : State) (e : Item) (st : List ℕ) (new : Bool) (en : new ≡ fresh
                 ];
           }
 
-      pub accepted : (d : ℕ) (st′ : List ℕ) (q′ : State) → d ≡ depthAfter k (q .depth) → st′ ≡ stackAfter k (q .depth) st → q′ ≡ movedTo q e to d new
-          → Steps q e st (record { fault = f; next = q′ }) st′
+      pub accepted : (d : ℕ) (st′ : List ℕ) (q′ : State) → d ≡ depthAfter k (q .depth) → st′ ≡ stackAfter k (q .depth) st → q′ ≡ movedTo q k v to d new
+          → Steps q k v st (record { fault = f; next = q′ }) st′
       accepted d st′ q′ ed es eq =
           record {
             fault-is = λ M I. fault-same M I;
@@ -213,3 +215,13 @@ module _ (q : State) (e : Item) (st : List ℕ) (new : Bool) (en : new ≡ fresh
             stack-is = λ z. es;
             kept = λ n. absurd (n none);
           }
+
+-- an element whose number fits its body is told by its kind and its number
+pub told-by : (y : Read) → numberOf y < 256 ^ body (kindOf y) → Tells (kindOf y) (numberOf y) (bytesOf y)
+told-by y h =
+    record {
+      kind-is = refl;
+      known = known-kind y;
+      whole-is = ap suc (digits-length (body (kindOf y)) (numberOf y));
+      pair = λ z. let w = span-le 8 10 (kindOf y) z in let b = body-var (kindOf y) (w .0) (w .1) in rw b (ap {B = List ℕ} (λ l. kindOf y ∷ l) (digits-one (numberOf y) (rw b at h)));
+    }

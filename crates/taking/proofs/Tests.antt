@@ -12,7 +12,6 @@ use Rattle.meaning.specs.Goodness.{span, stands, implies, endsSide, underLimit,
 use Rattle.meaning.proofs.Truth.{never, is-true, is-false, see, and-false, span-le}
 use Rattle.kinds.specs.Slots.{slotOf, within, joined}
 use Rattle.taking.specs.declared.State.{State}
-use Rattle.taking.specs.declared.Item.{Item}
 use Rattle.kinds.specs.Stacks.{stack}
 use Rattle.taking.specs.Standing.{numberOf, partOf, nextOf, fresh, limitsOf, movedTo}
 use Rattle.kinds.proofs.Stacks.{stack-empty}
@@ -194,17 +193,17 @@ module _ (to k n : ℕ) where
   unfolding countAfter
   count-idle e f = rw (e, f)
 
-module _ (q : State) (e : Item) (to d : ℕ) (new : Bool) (n : ℕ) (en : n ≡ countAfter (partOf to) (e .kind) (q .count)) where
-  pub moved-out : span 3 4 to ≡ false → record { part = to; depth = d; count = n; set = 0; number = 0 } ≡ movedTo q e to d new
+module _ (q : State) (k v to d : ℕ) (new : Bool) (n : ℕ) (en : n ≡ countAfter (partOf to) k (q .count)) where
+  pub moved-out : span 3 4 to ≡ false → record { part = to; depth = d; count = n; set = 0; number = 0 } ≡ movedTo q k v to d new
   unfolding movedTo
   moved-out z = rw (en, z)
 
-  pub moved-old : span 3 4 to ≡ true → new ≡ false → record { part = to; depth = d; count = n; set = q .set; number = q .number } ≡ movedTo q e to d new
+  pub moved-old : span 3 4 to ≡ true → new ≡ false → record { part = to; depth = d; count = n; set = q .set; number = q .number } ≡ movedTo q k v to d new
   unfolding movedTo
   moved-old z y = rw (en, z, y)
 
-  pub moved-new : (j slots : ℕ) → span 3 4 to ≡ true → new ≡ true → j ≡ slotOf (e .kind) (e .value) → slots ≡ joined (q .set) j
-      → record { part = to; depth = d; count = n; set = slots; number = q .number + 1 } ≡ movedTo q e to d new
+  pub moved-new : (j slots : ℕ) → span 3 4 to ≡ true → new ≡ true → j ≡ slotOf k v → slots ≡ joined (q .set) j
+      → record { part = to; depth = d; count = n; set = slots; number = q .number + 1 } ≡ movedTo q k v to d new
   unfolding movedTo
   moved-new j slots z y f g = rw (en, z, y, g, f)
 

@@ -10,7 +10,6 @@ use Rattle.meaning.specs.Goodness.{Part, field, outside, start, left, right, af
 use Rattle.kinds.specs.Slots.{slotOf, within, joined}
 use Rattle.kinds.specs.Stacks.{stack}
 use Rattle.taking.specs.declared.State.{State}
-use Rattle.taking.specs.declared.Item.{Item}
 use Rattle.taking.specs.declared.Taken.{Taken}
 
 -- the parts by their place in the definition
@@ -51,34 +50,29 @@ needed part n = cond (eqb part 0) n 400
 unfoldable pub fresh : ℕ → ℕ → ℕ → Bool
 fresh slots k v = span 8 10 k && (leb v 15 && not (within slots (slotOf k v)))
 
--- the tests of the definition by what the code has at hand: the last two, and all seven
+-- the tests of the definition by what the code has at hand: the last two, and those from the third on
 unfoldable pub limitsOf : State → ℕ → Bool → List Bool
 limitsOf q k new =
     ((endsSide k || underLimit (partOf (q .part)) (q .count)) && implies new (onRight (partOf (q .part)) || ltb (q .number) 16))
     ∷ implies new (not (onRight (partOf (q .part))))
     ∷ []
 
-unfoldable pub testsOf : State → Item → List ℕ → Bool → List Bool
-testsOf q e opens new =
-    span 1 15 (e .kind)
-    ∷ e .whole
-    ∷ stands (partOf (q .part)) (e .kind)
-    ∷ implies (span 8 10 (e .kind)) (leb (e .value) 15)
-    ∷ paired (e .kind) opens
-    ∷ limitsOf q (e .kind) new
+unfoldable pub testsOf : State → ℕ → ℕ → List ℕ → Bool → List Bool
+testsOf q k v opens new =
+    stands (partOf (q .part)) k ∷ implies (span 8 10 k) (leb v 15) ∷ paired k opens ∷ limitsOf q k new
 
 -- the numbers of the state after an element that passed fit their types
-abbrev pub Movable : State → Item → Bool → Type 0
-Movable q e new = (endsSide (e .kind) ≡ false → q .count + 1 < 2 ^ 64) × (new ≡ true → (8 ≤ e .kind) × (e .kind ≤ 10) × (e .value ≤ 15) × (q .number < 16))
+abbrev pub Movable : State → ℕ → ℕ → Bool → Type 0
+Movable q k v new = (endsSide k ≡ false → q .count + 1 < 2 ^ 64) × (new ≡ true → (8 ≤ k) × (k ≤ 10) × (v ≤ 15) × (q .number < 16))
 
 -- that state, with d brackets open; only a side of a sentence keeps the variables
-unfoldable pub movedTo : State → Item → ℕ → ℕ → Bool → State
-movedTo q e to d new =
+unfoldable pub movedTo : State → ℕ → ℕ → ℕ → ℕ → Bool → State
+movedTo q k v to d new =
     record {
       part = to;
       depth = d;
-      count = countAfter (partOf to) (e .kind) (q .count);
-      set = cond (span 3 4 to) (cond new (joined (q .set) (slotOf (e .kind) (e .value))) (q .set)) 0;
+      count = countAfter (partOf to) k (q .count);
+      set = cond (span 3 4 to) (cond new (joined (q .set) (slotOf k v)) (q .set)) 0;
       number = cond (span 3 4 to) (cond new (q .number + 1) (q .number)) 0;
     }
 
@@ -105,19 +99,16 @@ pub record Ready (q : State) (st : List ℕ) : Type 0 where
   pub means : Means q st stage
   pub room : needed (q .part) (q .count + 1) ≤ length st
 
--- the item e tells what is asked of the element x
-pub record Tells (e : Item) (x : Element) : Type 0 where
-  pub kind-is : kind x ≡ e .kind
-  pub whole-is : eqb (length x) (suc (body (kind x))) ≡ e .whole
-  pub pair : e .whole ≡ true → span 8 10 (e .kind) ≡ true → x ≡ e .kind ∷ e .value ∷ []
-
--- the element at i
-abbrev pub elementAt : List ℕ → ℕ → Element
-elementAt bs i = getD bs i 0 ∷ take (body (getD bs i 0)) (drop (i + 1) bs)
+-- kind k and number v tell what is asked of the element x, which is whole
+pub record Tells (k v : ℕ) (x : Element) : Type 0 where
+  pub kind-is : kind x ≡ k
+  pub known : span 1 15 k ≡ true
+  pub whole-is : length x ≡ suc (body k)
+  pub pair : span 8 10 k ≡ true → x ≡ k ∷ v ∷ []
 
 -- a step of the check is a step of the definition
-pub record Steps (q : State) (e : Item) (st : List ℕ) (r : Taken) (st′ : List ℕ) : Type 0 where
-  pub fault-is : {s : Stage} {x : Element} → Means q st s → Tells e x → r .fault ≡ fault s x
-  pub next-is : {s : Stage} {x : Element} → Means q st s → Tells e x → r .fault ≡ 0 → Means (r .next) st′ (stateAfter s x)
-  pub stack-is : r .fault ≡ 0 → st′ ≡ stackAfter (e .kind) (q .depth) st
+pub record Steps (q : State) (k v : ℕ) (st : List ℕ) (r : Taken) (st′ : List ℕ) : Type 0 where
+  pub fault-is : {s : Stage} {x : Element} → Means q st s → Tells k v x → r .fault ≡ fault s x
+  pub next-is : {s : Stage} {x : Element} → Means q st s → Tells k v x → r .fault ≡ 0 → Means (r .next) st′ (stateAfter s x)
+  pub stack-is : r .fault ≡ 0 → st′ ≡ stackAfter k (q .depth) st
   pub kept : (r .fault ≡ 0 → ⊥) → (r .next ≡ q) × (st′ ≡ st)

@@ -1,13 +1,15 @@
 // One element put through the check: which of the tests it fails first, and where reading stands after it.
+use elements::Element;
 ghost use mathlib.Core.Path.{_≡_};
 ghost use mathlib.Core.Bool.{true, false, _||_};
 ghost use mathlib.Core.List.{List};
 ghost use Prim.Native.Nat.{ℕ, _+_, _^_, _≤_, _<_};
-ghost use lib.ListN.{length, replicate};
+ghost use lib.ListN.{length};
 ghost use lib.Dec.{leb, ltb};
-ghost use Rattle.meaning.specs.Elements.{Element};
-ghost use Rattle.meaning.specs.Goodness.{at, span, implies, endsSide, top, paired, underLimit, firstFailing, sided, countAfter, mayEnd, badProgram, badField};
+ghost use Rattle.meaning.specs.Elements.{Element as Bytes};
+ghost use Rattle.meaning.specs.Goodness.{at, span, implies, endsSide, top, paired, underLimit, firstFailing, sided, countAfter, mayEnd};
 ghost use Rattle.kinds.specs.Stacks.{stack as opened};
+ghost use Rattle.elements.specs.Bytes.{kindOf, numberOf};
 ghost use Rattle.taking.specs.Standing.{partOf, nextOf, Leads, stackAfter, depthAfter, fresh, limitsOf, testsOf, Movable, movedTo, Ready, Steps};
 
 // Where reading stands: the part, the open brackets, the elements of this side so far, and the left side's variables, as a set and their number.
@@ -17,13 +19,6 @@ pub struct State {
     pub count: usize,
     pub set: u64,
     pub number: usize,
-}
-
-// What is asked of an element: its kind, whether its body is all there, and the first byte of its body.
-pub struct Item {
-    pub kind: u8,
-    pub whole: bool,
-    pub value: u8,
 }
 
 // The number of the first test that an element fails, or 0; and where reading stands after it.
@@ -118,27 +113,27 @@ fn has_room(part: u8, kind: u8, count: usize) -> bool
     part == FIELD || count < limit_of(part)
 }
 
-fn is_numbered(kind: u8, value: u8) -> bool
-    ensures { λ r. ⌜ r ≡ implies (span 8 10 kind) (leb value 15) ⌝ }
+fn is_numbered(kind: u8, number: u32) -> bool
+    ensures { λ r. ⌜ r ≡ implies (span 8 10 kind) (leb number 15) ⌝ }
 {
     if between(8, 10, kind) {
-        value <= 15
+        number <= 15
     } else {
         true
     }
 }
 
 // A variable that has not stood on the left side so far.
-pub fn is_fresh(set: u64, kind: u8, value: u8) -> bool
-    ensures { λ r. ⌜ r ≡ fresh set kind value ⌝ }
+pub fn is_fresh(set: u64, kind: u8, number: u32) -> bool
+    ensures { λ r. ⌜ r ≡ fresh set kind number ⌝ }
 {
     if !between(8, 10, kind) {
         return false;
     }
-    if 15 < value {
+    if 15 < number {
         return false;
     }
-    !kinds::has(set, kinds::slot(kind, value))
+    !kinds::has(set, kinds::slot(kind, number as u8))
 }
 
 // The last two tests: the limits, and that the left side has the variable.
@@ -157,27 +152,22 @@ fn limit_fault(state: State, kind: u8, new: bool) -> u8
     if state.number < 16 { 0 } else { 6 }
 }
 
-// The number of the first test that fails, in the order of the definition.
-fn fault_of(state: State, e: Item, to: u8, new: bool, stack: &[u8]) -> u8
-    requires { ⌜ (e .kind < 32 → to ≡ nextOf (partOf (state .part)) (e .kind)) × (state .depth ≤ length (now stack)) ⌝ }
-    ensures { λ r. ⌜ r ≡ firstFailing 1 (testsOf state e (opened (state .depth) (now (stack .entry))) new) ⌝ }
+// The number of the first test that an element fails, in the order of the definition. A read element has a known kind and its whole body,
+// so that the first two tests are passed.
+fn fault_of(state: State, kind: u8, number: u32, to: u8, new: bool, stack: &[u8]) -> u8
+    requires { ⌜ (span 1 15 kind ≡ true) × (kind < 32 → to ≡ nextOf (partOf (state .part)) kind) × (state .depth ≤ length (now stack)) ⌝ }
+    ensures { λ r. ⌜ r ≡ firstFailing 3 (testsOf state kind number (opened (state .depth) (now (stack .entry))) new) ⌝ }
 {
-    if !between(1, 15, e.kind) {
-        return 1;
-    }
-    if !e.whole {
-        return 2;
-    }
     if to == NOWHERE {
         return 3;
     }
-    if !is_numbered(e.kind, e.value) {
+    if !is_numbered(kind, number) {
         return 4;
     }
-    if !is_paired(e.kind, state.depth, stack) {
+    if !is_paired(kind, state.depth, stack) {
         return 5;
     }
-    limit_fault(state, e.kind, new)
+    limit_fault(state, kind, new)
 }
 
 // Puts an opening bracket on the stack; says how many are open then.
@@ -212,44 +202,53 @@ fn count_after(to: u8, kind: u8, count: usize) -> usize
 }
 
 // Only the sides of a sentence keep its variables.
-pub fn state_after(mut state: State, e: Item, to: u8, depth: usize, new: bool) -> State
-    requires { ⌜ Movable state e new ⌝ }
-    ensures { λ r. ⌜ r ≡ movedTo state e to depth new ⌝ }
+pub fn state_after(
+    mut state: State,
+    kind: u8,
+    number: u32,
+    to: u8,
+    depth: usize,
+    new: bool,
+) -> State
+    requires { ⌜ Movable state kind number new ⌝ }
+    ensures { λ r. ⌜ r ≡ movedTo state kind number to depth new ⌝ }
 {
     state.part = to;
     state.depth = depth;
-    state.count = count_after(to, e.kind, state.count);
+    state.count = count_after(to, kind, state.count);
     if !between(3, 4, to) {
         state.set = 0;
         state.number = 0;
         return state;
     }
     if new {
-        state.set = kinds::with(state.set, kinds::slot(e.kind, e.value));
+        state.set = kinds::with(state.set, kinds::slot(kind, number as u8));
         state.number += 1;
     }
     state
 }
 
 // Puts one element through the check; a bad one changes nothing.
-pub fn take(state: State, e: Item, moves: &[u8; 224], stack: &mut [u8]) -> Taken
+pub fn take(state: State, e: Element, moves: &[u8; 224], stack: &mut [u8]) -> Taken
     requires { ⌜ Leads (now moves) × Ready state (now stack) ⌝ }
-    ensures { λ r. ⌜ Steps state e (now (stack .entry)) r (now (stack .exit)) ⌝ }
+    ensures { λ r. ⌜ Steps state (kindOf e) (numberOf e) (now (stack .entry)) r (now (stack .exit)) ⌝ }
 {
-    let to = next_part(moves, state.part, e.kind);
-    let new = is_fresh(state.set, e.kind, e.value);
-    let fault = fault_of(state, e, to, new, stack);
+    let kind = elements::kind_of(e);
+    let number = elements::number_of(e);
+    let to = next_part(moves, state.part, kind);
+    let new = is_fresh(state.set, kind, number);
+    let fault = fault_of(state, kind, number, to, new, stack);
     if fault != 0 {
         return Taken { fault, next: state };
     }
-    let depth = brackets_after(stack, state.depth, e.kind);
-    let next = state_after(state, e, to, depth, new);
+    let depth = brackets_after(stack, state.depth, kind);
+    let next = state_after(state, kind, number, to, depth, new);
     Taken { fault, next }
 }
 
 // The bytes may end behind 0F, and in a field with no bracket open.
 pub fn may_end(state: State) -> bool
-    ensures { λ r. ⌜ ((st : List ℕ) (vs : List Element) → r ≡ mayEnd (at (partOf (state .part)) (opened (state .depth) st) (state .count) vs)) ⌝ }
+    ensures { λ r. ⌜ ((st : List ℕ) (vs : List Bytes) → r ≡ mayEnd (at (partOf (state .part)) (opened (state .depth) st) (state .count) vs)) ⌝ }
 {
     if state.part == FIELD {
         return state.depth == 0;

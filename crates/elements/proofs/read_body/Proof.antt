@@ -38,7 +38,7 @@ returns-2 c =
     let b = start .pre in
     let n = c .before .number-at .ensures in
     read-got (start .args .s .now) (start .args .at) (b .inside) _ _ _ (rw (b .kind-is) (b .width)) (omega arith) (n .0) (n .1)
-        (rw (b .kind-is) (c .make .ensures .0)) (c .make .ensures .1)
+    (rw (b .kind-is) (c .make .ensures .0)) (c .make .ensures .1)
 
 pub read-body-spec : {M : Type 1} → statement M
 read-body-spec =

@@ -1,3 +1,4 @@
+use native.Mathlib.Omega.{arith}
 use Rattle.taking.proofs.Tests.{denied, granted, fresh-plain, fresh-high, fresh-not}
 use borrow.Author.Needs.{needs}
 use Rattle.taking.proofs.is_fresh.Statement.{statement}
@@ -13,6 +14,9 @@ returns c = fresh-plain _ _ _ (denied (c .before .between .ensures) (c .if1 .tak
 returns-2 : tie.Need-returns-2
 returns-2 c = fresh-high _ _ _ (c .if2 .taken)
 
+cast-slot : tie.Need-cast-slot
+cast-slot c = omega (arith, c .if2 .left)
+
 slot-requires : tie.Need-slot-requires
 slot-requires c κs = let q = span-le 8 10 _ (granted (c .before .before .between .ensures) (c .before .if1 .left)) in (q .0, q .1, c .if2 .left)
 
@@ -20,8 +24,11 @@ has-requires : tie.Need-has-requires
 has-requires c κs = search needs
 
 returns-3 : tie.Need-returns-3
-returns-3 c = fresh-not _ _ _ _ _ (c .has .ensures) (c .before .slot .ensures .0) (granted (c .before .before .before .before .between .ensures) (c .before .before .before .if1 .left)) (c .before .before .if2 .left)
+returns-3 c =
+    let between = c .before .before .before .before .between in
+    let if1 = c .before .before .before .if1 in
+    fresh-not _ _ _ _ _ (c .has .ensures) (c .before .slot .ensures .0) (granted (between .ensures) (if1 .left)) (c .before .before .if2 .left)
 
 pub is-fresh-spec : {M : Type 1} → statement M
 is-fresh-spec =
-    tie.close (tie.spec between-requires returns returns-2 slot-requires has-requires returns-3)
+    tie.close (tie.spec between-requires returns returns-2 cast-slot slot-requires has-requires returns-3)
