@@ -6,12 +6,12 @@ use Prim.Native.Nat.{ℕ, zero, suc, _+_, _-_, _^_, _≤_, _<_}
 use native.Mathlib.Omega.{arith}
 use lib.ListN.{length, getD, take, drop, length-append, length-take, length-drop, drop-of-length-le}
 use lib.Dec.{T, leb}
-use borrow.Author.Tests.{leb-true, leb-false}
+use borrow.Author.Tests.{leb-true, leb-false, le-leb}
 use Rattle.meaning.specs.Elements.{kind, body, cut, elements, join, isSymbol}
 use Rattle.meaning.specs.Goodness.{span}
 use Rattle.meaning.specs.Matching.{Terms, symbol, bracket}
 use Rattle.meaning.proofs.Truth.{never, and-left, and-right, T-true, is-true, is-false, see, span-le}
-use Rattle.meaning.proofs.Cutting.{cut-at, join-cut, join-append}
+use Rattle.meaning.proofs.Cutting.{cut-at as cut-there, join-cut, join-append}
 use Rattle.elements.specs.declared.Element.{Element}
 use Rattle.elements.specs.declared.Element.the-variants.{Character, Name, Macrodigit, Open, Close, Call, Return, SVariable, TVariable, EVariable, Equals, SentenceEnd, Header, FunctionEnd, ProgramEnd}
 use Rattle.elements.specs.declared.Reading.the-variants.{Got, Unknown, Cut, End}
@@ -58,7 +58,7 @@ module _ (s : List ℕ) (at : ℕ) (h : at < length s) where
 
   pub cut-here : elements (drop at s) ≡ here ∷ elements (drop (at + 1 + body (getD s at 0)) s)
   unfolding here
-  cut-here = cut-at s at h
+  cut-here = cut-there s at h
 
   room : length here ≡ suc (body (getD s at 0)) → at + 1 + body (getD s at 0) ≤ length s
   unfolding here
@@ -103,8 +103,21 @@ pub known-as : (x : Element) {k : ℕ} → k ≡ kindOf x → span 1 15 k ≡ tr
 known-as x e = rw e (known-kind x)
 
 -- where a known kind stands
-pub begun : {s : List ℕ} {at : ℕ} (k : ℕ) → at < length s → getD s at 0 ≡ k → span 1 15 k ≡ true → Begun s at k (body k)
-begun k h e z = record { inside = h; kind-is = e; known = z; width = refl }
+module _ {s : List ℕ} {at k low high : ℕ} (b : Begun s at k low high) where
+  pub got-at : (w : ℕ) (x : Element) → kindOf x ≡ k → w ≡ body k → w < length s - at → digits w (numberOf x) ≡ take w (drop (at + 1) s)
+      → numberOf x < 256 ^ w → (next : ℕ) → next ≡ at + 1 + w → ReadAt s at (Got x (record { at = next }))
+  got-at w x ek ew l d n next en = rw en (read-got s at (b .inside) w (numberOf x) x (rw (b .kind-is) ew) l d n (rw (b .kind-is) ek) refl)
+
+  pub bare-at : (x : Element) → kindOf x ≡ k → 0 ≡ body k → numberOf x ≡ 0 → ReadAt s at (Got x (record { at = at + 1 }))
+  unfolding digits
+  bare-at x ek ew n = let i = b .inside in got-at 0 x ek ew (omega arith) refl (rw n (omega arith)) (at + 1) (omega arith)
+
+  pub cut-at : (w : ℕ) → w ≡ body k → 1 ≤ low → high ≤ 15 → length s - at ≤ w → ReadAt s at Cut
+  unfolding span
+  cut-at w ew l h c =
+      let u = b .above in
+      let v = b .below in
+      short (b .inside) (rw (b .kind-is, le-leb 1 k (omega arith), le-leb k 15 (omega arith))) (rw (b .kind-is, ← ew) c)
 
 pub up : (a : ℕ) {k : ℕ} → a ≤ k → (k ≡ a → ⊥) → suc a ≤ k
 up a h n = omega arith

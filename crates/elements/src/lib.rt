@@ -95,30 +95,6 @@ pub fn number_of(x: Element) -> u32
     }
 }
 
-// The element of kind k with the number n, which is 0 where there is no body: one match, which the compiler joins with its reader's.
-fn make(k: u8, n: u32) -> Element
-    requires { ⌜ (1 ≤ k) × (k ≤ 15) × (n < 256 ^ body k) ⌝ }
-    ensures { λ r. ⌜ (kindOf r ≡ k) × (numberOf r ≡ n) ⌝ }
-{
-    match k {
-        1 => Element::Character(n),
-        2 => Element::Name(n),
-        3 => Element::Macrodigit(n),
-        4 => Element::Open,
-        5 => Element::Close,
-        6 => Element::Call(n),
-        7 => Element::Return,
-        8 => Element::SVariable(n),
-        9 => Element::TVariable(n),
-        10 => Element::EVariable(n),
-        11 => Element::Equals,
-        12 => Element::SentenceEnd,
-        13 => Element::Header(n),
-        14 => Element::FunctionEnd,
-        _ => Element::ProgramEnd,
-    }
-}
-
 fn byte(s: &[u8], at: usize) -> u32
     requires { ⌜ at < length (now s) ⌝ }
     ensures { λ r. ⌜ (r ≡ getD (now (s .entry)) at 0) × (r < 256) ⌝ }
@@ -155,22 +131,105 @@ fn number_at(s: &[u8], at: usize, width: usize) -> u32
     low + word(s, at + 2) * 65536
 }
 
-// The element of kind k at a place, if its body is not cut short.
-fn read_body(s: &[u8], at: usize, k: u8, width: usize) -> Reading
-    requires { ⌜ Begun (now s) at k width ⌝ }
+// A symbol there. Each kind has its own arm, so that no length is looked up.
+fn read_symbol(s: &[u8], at: usize, k: u8) -> Reading
+    requires { ⌜ Begun (now s) at k 1 3 ⌝ }
     ensures { λ r. ⌜ ReadAt (now (s .entry)) at r ⌝ }
 {
-    if s.len() - at <= width {
+    let left = s.len() - at;
+    match k {
+        1 => {
+            if left <= 1 {
+                return Reading::Cut;
+            }
+            Reading::Got(
+                Element::Character(number_at(s, at + 1, 1)),
+                Cursor { at: at + 2 },
+            )
+        }
+        2 => {
+            if left <= 2 {
+                return Reading::Cut;
+            }
+            Reading::Got(
+                Element::Name(number_at(s, at + 1, 2)),
+                Cursor { at: at + 3 },
+            )
+        }
+        _ => {
+            if left <= 4 {
+                return Reading::Cut;
+            }
+            Reading::Got(
+                Element::Macrodigit(number_at(s, at + 1, 4)),
+                Cursor { at: at + 5 },
+            )
+        }
+    }
+}
+
+// A bracket there.
+fn read_bracket(s: &[u8], at: usize, k: u8) -> Reading
+    requires { ⌜ Begun (now s) at k 4 7 ⌝ }
+    ensures { λ r. ⌜ ReadAt (now (s .entry)) at r ⌝ }
+{
+    match k {
+        4 => Reading::Got(Element::Open, Cursor { at: at + 1 }),
+        5 => Reading::Got(Element::Close, Cursor { at: at + 1 }),
+        6 => {
+            if s.len() - at <= 2 {
+                return Reading::Cut;
+            }
+            Reading::Got(
+                Element::Call(number_at(s, at + 1, 2)),
+                Cursor { at: at + 3 },
+            )
+        }
+        _ => Reading::Got(Element::Return, Cursor { at: at + 1 }),
+    }
+}
+
+// A variable there.
+fn read_variable(s: &[u8], at: usize, k: u8) -> Reading
+    requires { ⌜ Begun (now s) at k 8 10 ⌝ }
+    ensures { λ r. ⌜ ReadAt (now (s .entry)) at r ⌝ }
+{
+    if s.len() - at <= 1 {
         return Reading::Cut;
     }
-    Reading::Got(
-        make(k, number_at(s, at + 1, width)),
-        Cursor { at: at + 1 + width },
-    )
+    let n = number_at(s, at + 1, 1);
+    let next = Cursor { at: at + 2 };
+    match k {
+        8 => Reading::Got(Element::SVariable(n), next),
+        9 => Reading::Got(Element::TVariable(n), next),
+        _ => Reading::Got(Element::EVariable(n), next),
+    }
+}
+
+// What stands between sides and functions there.
+fn read_mark(s: &[u8], at: usize, k: u8) -> Reading
+    requires { ⌜ Begun (now s) at k 11 15 ⌝ }
+    ensures { λ r. ⌜ ReadAt (now (s .entry)) at r ⌝ }
+{
+    match k {
+        11 => Reading::Got(Element::Equals, Cursor { at: at + 1 }),
+        12 => Reading::Got(Element::SentenceEnd, Cursor { at: at + 1 }),
+        13 => {
+            if s.len() - at <= 2 {
+                return Reading::Cut;
+            }
+            Reading::Got(
+                Element::Header(number_at(s, at + 1, 2)),
+                Cursor { at: at + 3 },
+            )
+        }
+        14 => Reading::Got(Element::FunctionEnd, Cursor { at: at + 1 }),
+        _ => Reading::Got(Element::ProgramEnd, Cursor { at: at + 1 }),
+    }
 }
 
 impl Cursor {
-    // Reads one element, and hands the moved cursor back. Each kind has its line, so that the width is known where the body is read.
+    // Reads one element, and hands the moved cursor back.
     pub fn read(self, s: &[u8]) -> Reading
         ensures { λ r. ⌜ ReadAt (now (s .entry)) (self .at) r ⌝ }
     {
@@ -178,22 +237,12 @@ impl Cursor {
         if s.len() <= at {
             return Reading::End;
         }
-        match s[at] {
-            1 => read_body(s, at, 1, 1),
-            2 => read_body(s, at, 2, 2),
-            3 => read_body(s, at, 3, 4),
-            4 => read_body(s, at, 4, 0),
-            5 => read_body(s, at, 5, 0),
-            6 => read_body(s, at, 6, 2),
-            7 => read_body(s, at, 7, 0),
-            8 => read_body(s, at, 8, 1),
-            9 => read_body(s, at, 9, 1),
-            10 => read_body(s, at, 10, 1),
-            11 => read_body(s, at, 11, 0),
-            12 => read_body(s, at, 12, 0),
-            13 => read_body(s, at, 13, 2),
-            14 => read_body(s, at, 14, 0),
-            15 => read_body(s, at, 15, 0),
+        let k = s[at];
+        match k {
+            1 | 2 | 3 => read_symbol(s, at, k),
+            4 | 5 | 6 | 7 => read_bracket(s, at, k),
+            8 | 9 | 10 => read_variable(s, at, k),
+            11 | 12 | 13 | 14 | 15 => read_mark(s, at, k),
             _ => Reading::Unknown,
         }
     }
