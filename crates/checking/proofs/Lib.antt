@@ -1,4 +1,3 @@
-pub mod Items
 pub mod Passing
 pub mod Reading
 pub mod Only

@@ -5,21 +5,19 @@ use mathlib.Core.Logic.{_⊎_, inl, inr}
 use mathlib.Core.List.{List}
 use Prim.Native.Nat.{ℕ, _+_, _-_, _^_, _≤_, _<_}
 use native.Mathlib.Omega.{arith}
-use lib.ListN.{length, getD}
+use lib.ListN.{length}
 use lib.Dec.{eqb, leb, ltb}
 use borrow.Author.Tests.{eqb-true, eqb-false, leb-false, ne-eqb, le-leb, lt-leb, lt-ltb}
-use Rattle.meaning.specs.Elements.{body}
+use Rattle.meaning.specs.Elements.{Element, body}
 use Rattle.meaning.specs.Goodness.{left, right, span, stands, implies, endsSide, paired, underLimit, firstFailing, partAfter, sided}
 use Rattle.meaning.proofs.Truth.{never, is-true, is-false, see, or-right, span-le}
 use Rattle.taking.specs.declared.State.{State}
-use Rattle.taking.specs.declared.Item.{Item}
 use Rattle.kinds.specs.Stacks.{stack}
-use Rattle.taking.specs.Standing.{partOf, nextOf, stackAfter, depthAfter, fresh, limitsOf, testsOf, Movable, movedTo, Ready, Tells, elementAt, Steps}
-use Rattle.checking.specs.Passing.{entireOf, HasRoom, Tried}
+use Rattle.taking.specs.Standing.{partOf, nextOf, stackAfter, depthAfter, fresh, limitsOf, testsOf, Movable, movedTo, Ready, Tells, Steps}
+use Rattle.checking.specs.Passing.{HasRoom, Tried}
 use Rattle.taking.proofs.Parts.{sided-is}
 use Rattle.taking.proofs.Opens.{neither-of as neither, alone, Becomes, none-moves}
 use Rattle.taking.proofs.Tests.{passes, span-from, span-low, under, fresh-plain, limits-old, limits-left}
-use Rattle.checking.proofs.Items.{item-tells}
 use Rattle.taking.proofs.Stepping.{accepted}
 
 pub plain : (k : ℕ) → k < 8 → span 8 10 k ≡ false
@@ -44,13 +42,13 @@ end-kind k z =
 module _ (q : State) (k v : ℕ) (st : List ℕ) (R : Ready q st) (known : span 1 15 k ≡ true) (stood : stands (partOf (q .part)) k ≡ true)
     (nu : implies (span 8 10 k) (leb v 15) ≡ true) (p : paired k (stack (q .depth) st) ≡ true) (new : Bool) (en : new ≡ fresh (q .set) k v)
     (lim : 0 ≡ firstFailing 6 (limitsOf q k new)) (to : ℕ) (et : k < 32 → to ≡ nextOf (partOf (q .part)) k) where
-  good : 0 ≡ firstFailing 1 (testsOf q (entireOf k v) (stack (q .depth) st) new)
+  good : 0 ≡ firstFailing 3 (testsOf q k v (stack (q .depth) st) new)
   unfolding testsOf
-  good = passes 1 _ known (passes 2 _ refl (passes 3 _ stood (passes 4 _ nu (passes 5 _ p lim))))
+  good = passes 3 _ stood (passes 4 _ nu (passes 5 _ p lim))
 
-  pub good-steps : (d : ℕ) (st′ : List ℕ) (q′ : State) → d ≡ depthAfter k (q .depth) → st′ ≡ stackAfter k (q .depth) st → q′ ≡ movedTo q (entireOf k v) to d new
-      → Steps q (entireOf k v) st (record { fault = 0; next = q′ }) st′
-  good-steps = accepted q (entireOf k v) st new en 0 good refl R to et
+  pub good-steps : (d : ℕ) (st′ : List ℕ) (q′ : State) → d ≡ depthAfter k (q .depth) → st′ ≡ stackAfter k (q .depth) st → q′ ≡ movedTo q k v to d new
+      → Steps q k v st (record { fault = 0; next = q′ }) st′
+  good-steps = accepted q k v st new en 0 good refl R known to et
 
 -- ---- in a side
 side-part : (p : ℕ) → span 3 4 p ≡ true → (p ≡ 3) ⊎ (p ≡ 4)
@@ -103,13 +101,13 @@ module _ (q : State) (H : HasRoom q) where
 
     -- no variable, or one that the side has
     pub old-steps : implies (span 8 10 k) (leb v 15) ≡ true → (new : Bool) → new ≡ fresh (q .set) k v → new ≡ false
-        → (d : ℕ) (st′ : List ℕ) (q′ : State) → d ≡ depthAfter k (q .depth) → st′ ≡ stackAfter k (q .depth) st → q′ ≡ movedTo q (entireOf k v) (q .part) d new
-        → Steps q (entireOf k v) st (record { fault = 0; next = q′ }) st′
+        → (d : ℕ) (st′ : List ℕ) (q′ : State) → d ≡ depthAfter k (q .depth) → st′ ≡ stackAfter k (q .depth) st → q′ ≡ movedTo q k v (q .part) d new
+        → Steps q k v st (record { fault = 0; next = q′ }) st′
     old-steps nu new en z = good-steps q k v st R known stands-here nu p new en (limits-old q k new room z) (q .part) (λ h. same-part (q .part) k (side-part (q .part) (H .0)) high stands-here)
 
     pub new-steps : implies (span 8 10 k) (leb v 15) ≡ true → (new : Bool) → new ≡ fresh (q .set) k v → new ≡ true → (q .part ≡ 4 → ⊥) → q .number < 16
-        → (d : ℕ) (st′ : List ℕ) (q′ : State) → d ≡ depthAfter k (q .depth) → st′ ≡ stackAfter k (q .depth) st → q′ ≡ movedTo q (entireOf k v) (q .part) d new
-        → Steps q (entireOf k v) st (record { fault = 0; next = q′ }) st′
+        → (d : ℕ) (st′ : List ℕ) (q′ : State) → d ≡ depthAfter k (q .depth) → st′ ≡ stackAfter k (q .depth) st → q′ ≡ movedTo q k v (q .part) d new
+        → Steps q k v st (record { fault = 0; next = q′ }) st′
     new-steps nu new en z n f = good-steps q k v st R known stands-here nu p new en (limits-left q k new room z n f) (q .part) (λ h. same-part (q .part) k (side-part (q .part) (H .0)) high stands-here)
 
 pub room-in : (q : State) {p n : ℕ} → q .part ≡ p → span 3 4 p ≡ true → ((m : ℕ) → (p ≡ 0 → ⊥) → underLimit (partOf p) m ≡ ltb m n) → q .count < n → HasRoom q
@@ -121,31 +119,31 @@ shallow q st H R =
     let y : sided (partOf (q .part)) ≡ true = rw (sided-is (q .part), H .0) (or-right (eqb (q .part) 0)) in
     omega (arith, rw y at (R .means .deep), few q H, rw z at (R .room))
 
-pub movable : (q : State) (e : Item) → (endsSide (e .kind) ≡ false → q .count + 1 < 2 ^ 64) → Movable q e false
-movable q e h = (h, λ z. never (let w : false ≡ true = z in cc))
+pub movable : (q : State) (k v : ℕ) → (endsSide k ≡ false → q .count + 1 < 2 ^ 64) → Movable q k v false
+movable q k v h = (h, λ z. never (let w : false ≡ true = z in cc))
 
-pub end-movable : (q : State) (e : Item) (k : ℕ) → e ≡ entireOf k 0 → endsSide k ≡ true → Movable q e false
-end-movable q e k ee z = rw ee (movable q (entireOf k 0) (λ y. never (let c : true ≡ false = sym z ∙ y in cc)))
+pub end-movable : (q : State) (k : ℕ) → endsSide k ≡ true → Movable q k 0 false
+end-movable q k z = movable q k 0 (λ y. never (let c : true ≡ false = sym z ∙ y in cc))
 
-pub new-movable : (q : State) (e : Item) (k v : ℕ) (new : Bool) → HasRoom q → e ≡ entireOf k v → 8 ≤ k → k ≤ 10 → v ≤ 15 → (q .number ≤ 15) ⊎ (new ≡ false) → Movable q e new
-new-movable q e k v new H ee low high small w = rw ee (λ z. omega (arith, few q H), λ z. (low, high, small, below w z))
+pub new-movable : (q : State) (k v : ℕ) (new : Bool) → HasRoom q → 8 ≤ k → k ≤ 10 → v ≤ 15 → (q .number ≤ 15) ⊎ (new ≡ false) → Movable q k v new
+new-movable q k v new H low high small w = (λ z. omega (arith, few q H), λ z. (low, high, small, below w z))
   where
     below : (q .number ≤ 15) ⊎ (new ≡ false) → new ≡ true → q .number < 16
     below (inl l) z = omega arith
     below (inr y) z = never (let c : true ≡ false = sym z ∙ y in cc)
 
 -- ---- what the helpers answer
-pub refused : (q : State) (e : Item) (st : List ℕ) {n : ℕ} → (n ≡ 0 → ⊥) → Tried q e st (record { fault = n; next = q }) st
-refused q e st n = record { steps = λ z. absurd (n z); part = refl; kept = λ m. refl }
+pub refused : (q : State) (k v : ℕ) (st : List ℕ) {n : ℕ} → (n ≡ 0 → ⊥) → Tried q k v st (record { fault = n; next = q }) st
+refused q k v st n = record { steps = λ z. absurd (n z); part = refl; kept = λ m. refl }
 
 pub bracket-passed : (q : State) (H : HasRoom q) (k : ℕ) → 4 ≤ k → k ≤ 7 → ((5 < k) × (q .part ≡ 4)) ⊎ (k ≤ 5) → (st : List ℕ) → Ready q st → paired k (stack (q .depth) st) ≡ true
-    → (d : ℕ) (st′ : List ℕ) (q′ : State) (e : Item) → d ≡ depthAfter k (q .depth) → st′ ≡ stackAfter k (q .depth) st → e ≡ entireOf k 0 → q′ ≡ movedTo q e (q .part) d false
-    → Tried q (entireOf k 0) st (record { fault = 0; next = q′ }) st′
+    → (d : ℕ) (st′ : List ℕ) (q′ : State) → d ≡ depthAfter k (q .depth) → st′ ≡ stackAfter k (q .depth) st → q′ ≡ movedTo q k 0 (q .part) d false
+    → Tried q k 0 st (record { fault = 0; next = q′ }) st′
 unfolding movedTo
-bracket-passed q H k low high w st R p d st′ q′ e ed es ee eq =
+bracket-passed q H k low high w st R p d st′ q′ ed es eq =
     let y : span 8 10 k ≡ false = plain k (omega arith) in
     record {
-      steps = λ z. old-steps q H k 0 (omega arith) (omega arith) (only w) st R p (rw y) false (fresh-plain (q .set) k 0 y) refl d st′ q′ ed es (eq ∙ ap (λ (x : Item). movedTo q x (q .part) d false) ee);
+      steps = λ z. old-steps q H k 0 (omega arith) (omega arith) (only w) st R p (rw y) false (fresh-plain (q .set) k 0 y) refl d st′ q′ ed es eq;
       part = ap (λ (x : State). x .part) eq;
       kept = λ n. absurd (n refl);
     }
@@ -156,10 +154,10 @@ bracket-passed q H k low high w st R p d st′ q′ e ed es ee eq =
     only (inr w) (inr e) = never (omega arith)
 
 pub variable-passed : (q : State) (H : HasRoom q) (k v : ℕ) → 8 ≤ k → k ≤ 10 → v ≤ 15 → (new : Bool) → new ≡ fresh (q .set) k v → ((new ≡ true) × (q .part ≡ 4 → ⊥) × (q .number < 16)) ⊎ (new ≡ false)
-    → (q′ : State) (e : Item) → e ≡ entireOf k v → q′ ≡ movedTo q e (q .part) (q .depth) new → (st : List ℕ) → Ready q st
-    → Tried q (entireOf k v) st (record { fault = 0; next = q′ }) st
+    → (q′ : State) → q′ ≡ movedTo q k v (q .part) (q .depth) new → (st : List ℕ) → Ready q st
+    → Tried q k v st (record { fault = 0; next = q′ }) st
 unfolding movedTo span
-variable-passed q H k v low high small new en w q′ e ee eq st R =
+variable-passed q H k v low high small new en w q′ eq st R =
     record { steps = λ z. moved w; part = ap (λ (x : State). x .part) eq; kept = λ n. absurd (n refl) }
   where
     still : Becomes k (q .depth) st (q .depth) st
@@ -171,15 +169,11 @@ variable-passed q H k v low high small new en w q′ e ee eq st R =
     numbered : implies (span 8 10 k) (leb v 15) ≡ true
     numbered = rw (le-leb 8 k low, le-leb k 10 high, le-leb v 15 small)
 
-    moved : ((new ≡ true) × (q .part ≡ 4 → ⊥) × (q .number < 16)) ⊎ (new ≡ false) → Steps q (entireOf k v) st (record { fault = 0; next = q′ }) st
-    moved (inl u) = new-steps q H k v (omega arith) high (λ z. absurd (neither k 6 7 (omega arith) (omega arith) z)) st R pairs numbered new en (u .0) (u .1) (u .2) (q .depth) st q′ (still .0) (still .1) (eq ∙ ap (λ (x : Item). movedTo q x (q .part) (q .depth) new) ee)
-    moved (inr u) = old-steps q H k v (omega arith) high (λ z. absurd (neither k 6 7 (omega arith) (omega arith) z)) st R pairs numbered new en u (q .depth) st q′ (still .0) (still .1) (eq ∙ ap (λ (x : Item). movedTo q x (q .part) (q .depth) new) ee)
+    moved : ((new ≡ true) × (q .part ≡ 4 → ⊥) × (q .number < 16)) ⊎ (new ≡ false) → Steps q k v st (record { fault = 0; next = q′ }) st
+    moved (inl u) = new-steps q H k v (omega arith) high (λ z. absurd (neither k 6 7 (omega arith) (omega arith) z)) st R pairs numbered new en (u .0) (u .1) (u .2) (q .depth) st q′ (still .0) (still .1) eq
+    moved (inr u) = old-steps q H k v (omega arith) high (λ z. absurd (neither k 6 7 (omega arith) (omega arith) z)) st R pairs numbered new en u (q .depth) st q′ (still .0) (still .1) eq
 
--- ---- what the item of a whole element tells
-pub tells : (bs : List ℕ) (i : ℕ) → i < length bs → body (getD bs i 0) < length bs - i → Tells (entireOf (getD bs i 0) (getD bs (i + 1) 0)) (elementAt bs i)
-tells bs i h l = rw (lt-ltb (body (getD bs i 0)) (length bs - i) l) at (item-tells bs i (body (getD bs i 0)) (getD bs (i + 1) 0) h refl (λ w. refl))
-
-pub tells-plain : (bs : List ℕ) (i : ℕ) → i < length bs → body (getD bs i 0) < length bs - i → span 8 10 (getD bs i 0) ≡ false → Tells (entireOf (getD bs i 0) 0) (elementAt bs i)
-tells-plain bs i h l z =
-    let T = tells bs i h l in
-    record { kind-is = T .kind-is; whole-is = T .whole-is; pair = λ w y. never (let c : true ≡ false = sym y ∙ z in cc) }
+-- ---- only a variable's number is asked for
+pub tells-plain : {k v : ℕ} {x : Element} → Tells k v x → span 8 10 k ≡ false → Tells k 0 x
+tells-plain t z =
+    record { kind-is = t .kind-is; known = t .known; whole-is = t .whole-is; pair = λ y. never (let c : true ≡ false = sym y ∙ z in cc) }

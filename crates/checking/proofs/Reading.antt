@@ -3,40 +3,81 @@ use mathlib.Core.Path.{_≡_, refl, sym, _∙_, ap}
 use mathlib.Core.Bool.{Bool, true, false, cond}
 use mathlib.Core.Option.{Option, none, some}
 use mathlib.Core.Logic.{_⊎_, inl, inr}
-use mathlib.Core.List.{List, _∷_, []}
-use Prim.Native.Nat.{ℕ, suc, _+_, _≤_, _<_}
+use mathlib.Core.List.{List, _∷_, [], append-nil}
+use Prim.Native.Nat.{ℕ, suc, _+_, _^_, _≤_, _<_}
 use native.Mathlib.Omega.{arith}
-use lib.ListN.{length, getD, drop, length-take, length-drop, drop-of-length-le}
+use lib.ListN.{length, getD, take, drop, length-take, length-drop, drop-of-length-le}
 use lib.Dec.{eqb}
-use borrow.Author.Tests.{eqb-true, eqb-false, eq-eqb, ne-eqb, le-leb}
-use Rattle.meaning.specs.Elements.{Element, kind, body, cut}
+use borrow.Author.Tests.{eqb-true, eqb-false, eq-eqb, ne-eqb}
+use Rattle.meaning.specs.Elements.{Element, kind, body, cut, elements, join}
 use Rattle.meaning.specs.Goodness.{Part, outside, start, left, after, State as Stage, at, span, stands, endsSide, underLimit, onRight, tests, fault, partAfter, sided, countAfter, stateAfter, mayEnd, firstBad, badProgram}
-use Rattle.meaning.proofs.Truth.{or-right}
+use Rattle.meaning.proofs.Truth.{never, is-true, is-false, see, or-right}
 use Rattle.meaning.proofs.Cutting.{cut-at}
 use Rattle.taking.specs.declared.State.{State}
-use Rattle.taking.specs.declared.Item.{Item}
 use Rattle.taking.specs.declared.Taken.{Taken}
 use Rattle.kinds.specs.Stacks.{stack}
-use Rattle.taking.specs.Standing.{numberOf, partOf, nextOf, movedTo, Means, Ready, Tells, elementAt, Steps}
-use Rattle.checking.specs.Passing.{entireOf, HasRoom, Tried, Reading}
+use Rattle.taking.specs.Standing.{numberOf as partNumber, partOf, nextOf, movedTo, Means, Ready, Tells, Steps}
+use Rattle.checking.specs.Passing.{HasRoom, Tried, Reading}
 use Rattle.taking.proofs.Parts.{sided-is, in-field, field-stays}
-use Rattle.taking.proofs.Tests.{all, stands-yes, fresh-plain, limits-old, count-side, moved-old}
+use Rattle.taking.proofs.Tests.{fails, passes, stands-yes, fresh-plain, limits-old, count-side, moved-old}
 use Rattle.taking.proofs.Variables.{or-no, holds-none}
 use Rattle.taking.proofs.Opens.{neither-of as neither, none-moves, paired-none, alone}
-use Rattle.checking.proofs.Passing.{plain, end-plain, end-kind, no-end, good-steps, old-steps, tells, tells-plain}
-use Rattle.checking.proofs.Items.{body-one}
+use Rattle.taking.proofs.Stepping.{told-by, told-as}
+use Rattle.elements.specs.declared.Element.{Element as Read}
+use Rattle.elements.specs.declared.Element.the-variants.{Equals, SentenceEnd}
+use Rattle.elements.specs.declared.Cursor.{Cursor}
+use Rattle.elements.specs.declared.Reading.the-variants.{Got, Unknown, Cut, End}
+use Rattle.elements.specs.Bytes.{kindOf, numberOf, bytesOf}
+use Rattle.elements.specs.Reading.{ReadAt, over, got, unknown, short}
+use Rattle.elements.proofs.Places.{split-size, bare-at}
+use Rattle.checking.proofs.Passing.{plain, end-plain, end-kind, no-end, good-steps, old-steps, tells-plain}
+
+-- ---- what a cursor reads there
+-- the element at i
+abbrev elementAt : List ℕ → ℕ → Element
+elementAt bs i = getD bs i 0 ∷ take (body (getD bs i 0)) (drop (i + 1) bs)
+
+one-long : (e : Element) → length (join (e ∷ [])) ≡ length e
+unfolding join
+one-long e = ap length (append-nil e)
+
+module _ {bs : List ℕ} {i : ℕ} {y : Read} {c : Cursor} where
+  pub got-number : ReadAt bs i (Got y c) → numberOf y < 256 ^ body (kindOf y)
+  got-number (got n l s) = n
+
+  got-front : ReadAt bs i (Got y c) → elements (drop i bs) ≡ bytesOf y ∷ elements (drop (c .at) bs)
+  got-front (got n l s) = s .front
+
+  pub got-fits : ReadAt bs i (Got y c) → c .at ≤ length bs
+  got-fits (got n l s) = s .fits
+
+  pub got-on : ReadAt bs i (Got y c) → i < c .at
+  got-on (got n l s) = l
+
+  got-long : ReadAt bs i (Got y c) → i + length (bytesOf y) ≡ c .at
+  got-long (got n l s) = omega (arith, split-size s, one-long (bytesOf y))
+
+pub read-over : {bs : List ℕ} {i : ℕ} → ReadAt bs i End → length bs ≤ i
+read-over (over l) = l
+
+-- 0B and 0C are read as they are
+end-read : (bs : List ℕ) (i : ℕ) → i < length bs → (k : ℕ) → getD bs i 0 ≡ k → endsSide k ≡ true → (u : Read) × ReadAt bs i (Got u (record { at = i + 1 })) × (kindOf u ≡ k)
+unfolding endsSide body
+end-read bs i h k e z =
+    elim (see (eqb k 11)) [
+      | is-true y ↦ let w = eqb-true k 11 y in (Equals, bare-at {low = 11} {high = 12} (record { inside = h; kind-is = e; above = omega arith; below = omega arith }) Equals (sym w) (rw w) refl, sym w)
+      | is-false y ↦
+          let w = eqb-true k 12 (rw y at z) in
+          (SentenceEnd, bare-at {low = 11} {high = 12} (record { inside = h; kind-is = e; above = omega arith; below = omega arith }) SentenceEnd (sym w) (rw w) refl, sym w)
+    ]
 
 -- ---- what a step does to the definition's state
 abbrev partIn : Stage → Part
 partIn (at p opens n vs) = p
 
-part-stays : (s : Stage) (x : Element) → eqb (numberOf (partIn (stateAfter s x))) 0 ≡ eqb (numberOf (partIn s)) 0
+part-stays : (s : Stage) (x : Element) → eqb (partNumber (partIn (stateAfter s x))) 0 ≡ eqb (partNumber (partIn s)) 0
 unfolding stateAfter
 part-stays (at p opens n vs) x = field-stays p (kind x)
-
-whole : (s : Stage) (x : Element) → fault s x ≡ 0 → length x ≡ suc (body (kind x))
-unfolding fault tests
-whole (at p opens n vs) x f = eqb-true (length x) (suc (body (kind x))) (all 0 (tests (at p opens n vs) x) f .1 .0)
 
 -- ---- the state where reading begins
 abbrev begin : State
@@ -102,31 +143,43 @@ module _ {found : Option ℕ} {bs st : List ℕ} {i : ℕ} {q : State} (R : Read
       as-left (inl e) es = rw e (start-left (stack (q .depth) st) (q .count) (R .means .vs) i (elementAt bs i) es)
       as-left (inr e) es = rw e (after-left (stack (q .depth) st) (q .count) (R .means .vs) i (elementAt bs i) es n)
 
+  -- an element that cannot be read is bad
+  unread : (i < length bs) → (x : Element) (es : List Element) → elements (drop i bs) ≡ x ∷ es → (f : ℕ) → fault (at (partOf (q .part)) (stack (q .depth) st) (q .count) (R .means .vs)) x ≡ suc f → found ≡ some i
+  unfolding firstBad
+  unread h x es e f n = R .same ∙ rw (e, R .means .is, n, ne-eqb (suc f) 0 (λ z. omega arith))
+
+  pub unknown-bad : ReadAt bs i Unknown → found ≡ some i
+  unfolding fault tests
+  unknown-bad (unknown h z) = unread h _ _ (cut-at bs i h) 0 (sym (fails 1 _ z))
+
+  pub cut-bad : ReadAt bs i Cut → found ≡ some i
+  unfolding fault tests
+  cut-bad (short h z l) =
+      let c = ne-eqb (length (elementAt bs i)) (suc (body (getD bs i 0))) (λ w. never (omega (arith, length-take (body (getD bs i 0)) (drop (i + 1) bs), length-drop (i + 1) bs))) in
+      unread h _ _ (cut-at bs i h) 1 (sym (passes 1 _ z (fails 2 _ c)))
+
   -- one element more
-  module _ (h : i < length bs) {e : Item} (I : Tells e (elementAt bs i)) {r : Taken} {st′ : List ℕ} (S : Steps q e st r st′) where
+  module _ {y : Read} {c : Cursor} (A : ReadAt bs i (Got y c)) {k v : ℕ} (I : Tells k v (bytesOf y)) {r : Taken} {st′ : List ℕ} (S : Steps q k v st r st′) where
     abbrev x : Element
-    x = elementAt bs i
+    x = bytesOf y
 
     pub stopped : (r .fault ≡ 0 → ⊥) → found ≡ some i
     unfolding firstBad
-    stopped n = R .same ∙ rw (cut-at bs i h, ne-eqb (fault (R .stage) x) 0 (λ z. n (S .fault-is (R .means) I ∙ z)))
+    stopped n = R .same ∙ rw (got-front A, ne-eqb (fault (R .stage) x) 0 (λ z. n (S .fault-is (R .means) I ∙ z)))
 
-    module _ (f : r .fault ≡ 0) (l : length st′ ≡ length st) (b : ℕ) (eb : b ≡ body (e .kind)) where
+    module _ (f : r .fault ≡ 0) (l : length st′ ≡ length st) where
       good : fault (R .stage) x ≡ 0
       good = sym (S .fault-is (R .means) I) ∙ f
 
       next : Means (r .next) st′ (stateAfter (R .stage) x)
       next = S .next-is (R .means) I f
 
-      body-is : b ≡ body (kind x)
-      body-is = eb ∙ ap body (sym (I .kind-is))
-
       field-still : eqb (r .next .part) 0 ≡ eqb (q .part) 0
       field-still =
-          sym (in-field (r .next .part)) ∙ ap (λ (s : Stage). eqb (numberOf (partIn s)) 0) (sym (next .is)) ∙ part-stays (R .stage) x
-          ∙ ap (λ (s : Stage). eqb (numberOf (partIn s)) 0) (R .means .is) ∙ in-field (q .part)
+          sym (in-field (r .next .part)) ∙ ap (λ (s : Stage). eqb (partNumber (partIn s)) 0) (sym (next .is)) ∙ part-stays (R .stage) x
+          ∙ ap (λ (s : Stage). eqb (partNumber (partIn s)) 0) (R .means .is) ∙ in-field (q .part)
 
-      pub turned : Reading found bs (i + 1 + b) (r .next) st′
+      pub turned : Reading found bs (c .at) (r .next) st′
       unfolding firstBad
       turned =
           record {
@@ -134,67 +187,61 @@ module _ {found : Option ℕ} {bs st : List ℕ} {i : ℕ} {q : State} (R : Read
             means = next;
             program = let n = eqb-false (r .next .part) 0 (field-still ∙ ne-eqb (q .part) 0 (λ z. omega (arith, R .program))) in omega arith;
             room = omega (arith, R .room);
-            inside = omega (arith, whole (R .stage) x good, body-is, length-take (body (getD bs i 0)) (drop (i + 1) bs), length-drop (i + 1) bs);
-            same =
-                let n : i + length x ≡ i + 1 + b = omega (arith, whole (R .stage) x good, body-is) in
-                R .same ∙ rw (cut-at bs i h, good, n, ← body-is);
+            inside = got-fits A;
+            same = R .same ∙ rw (got-front A, good, got-long A);
           }
 
   -- the bytes end
   module _ (h : length bs ≤ i) {r : Bool} (m : (st : List ℕ) (vs : List Element) → r ≡ mayEnd (at (partOf (q .part)) (stack (q .depth) st) (q .count) vs)) where
-    over : found ≡ cond r none (some i)
+    over-all : found ≡ cond r none (some i)
     unfolding firstBad cut
-    over = R .same ∙ rw (drop-of-length-le bs {i = i} h, m st (R .means .vs), R .means .is)
+    over-all = R .same ∙ rw (drop-of-length-le bs {i = i} h, m st (R .means .vs), R .means .is)
 
     pub over-good : r ≡ true → found ≡ none
-    over-good z = over ∙ rw z
+    over-good z = over-all ∙ rw z
 
     pub over-early : r ≡ false → found ≡ some i
-    over-early z = over ∙ rw z
+    over-early z = over-all ∙ rw z
 
 -- ---- elements that surely are good
 module _ {found : Option ℕ} {bs st : List ℕ} {i : ℕ} {q : State} (R : Reading found bs i q st) where
   -- the end of a side
-  pub ended : {to : ℕ} {q′ : State} {e : Item} → i < length bs → endsSide (getD bs i 0) ≡ true → (getD bs i 0 < 32 → to ≡ nextOf (partOf (q .part)) (getD bs i 0)) → (to ≡ 7 → ⊥) → q .depth ≡ 0
-      → e ≡ entireOf (getD bs i 0) 0 → q′ ≡ movedTo q e to 0 false → Reading found bs (i + 1) q′ st
-  ended {to} {q′} {e} h z et n d ee eq =
-      let k : ℕ = getD bs i 0 in
+  pub ended : {to : ℕ} {q′ : State} {k next : ℕ} → i < length bs → k ≡ getD bs i 0 → next ≡ i + 1 + body (getD bs i 0) → endsSide k ≡ true → (k < 32 → to ≡ nextOf (partOf (q .part)) k) → (to ≡ 7 → ⊥) → q .depth ≡ 0
+      → q′ ≡ movedTo q k 0 to 0 false → Reading found bs next q′ st
+  ended {to} {q′} {k} {next} h ek en z et n d eq =
       let b = end-kind k z in
       let y : span 8 10 k ≡ false = end-plain k (b .0) in
       let kn : span 1 15 k ≡ true = b .3 in
-      let I : Tells (entireOf k 0) (elementAt bs i) = tells-plain bs i h (omega (arith, b .2)) y in
+      let (u, A, eu) = end-read bs i h k (sym ek) z in
+      let I : Tells k 0 (bytesOf u) = tells-plain (told-as u (got-number A) (sym eu) refl) y in
       let B = none-moves k (q .depth) st (neither k 4 6 (omega arith) (omega arith)) (neither k 5 7 (omega arith) (omega arith)) in
-      let S : Steps q (entireOf k 0) st (record { fault = 0; next = q′ }) st = good-steps q k 0 st (ready R) kn (stands-yes (q .part) k to kn et n) (rw y)
+      let S : Steps q k 0 st (record { fault = 0; next = q′ }) st = good-steps q k 0 st (ready R) kn (stands-yes (q .part) k to kn et n) (rw y)
       (sym (paired-none k (q .depth) st (neither k 5 7 (omega arith) (omega arith)) d) ∙ eq-eqb (q .depth) 0 d) false (fresh-plain (q .set) k 0 y) (limits-old q k false (rw z) refl) to et
-      0 st q′ (sym d ∙ B .0) (B .1) (eq ∙ ap (λ (x : Item). movedTo q x to 0 false) ee) in
-      let m : i + 1 + 0 ≡ i + 1 = omega arith in
-      rw m at (turned R h I S refl refl 0 (sym (b .2)))
+      0 st q′ (sym d ∙ B .0) (B .1) eq in
+      let m : i + 1 ≡ next = omega (arith, en, ap body ek, b .2) in
+      rw m at (turned R A I S refl refl)
 
-  module _ (l : i + 5 ≤ length bs) (b : ℕ) (eb : b ≡ body (getD bs i 0)) (lb : b ≤ 4) where
+  module _ {y : Read} {c : Cursor} (A : ReadAt bs i (Got y c)) where
     -- a symbol
-    pub symbol-passed : HasRoom q → 1 ≤ getD bs i 0 → getD bs i 0 < 4
-        → Reading found bs (i + 1 + b) (record { part = q .part; depth = q .depth; count = q .count + 1; set = q .set; number = q .number }) st
+    pub symbol-passed : HasRoom q → 1 ≤ kindOf y → kindOf y < 4
+        → Reading found bs (c .at) (record { part = q .part; depth = q .depth; count = q .count + 1; set = q .set; number = q .number }) st
     symbol-passed H low high =
-        let k : ℕ = getD bs i 0 in
-        let y : span 8 10 k ≡ false = plain k (omega arith) in
+        let k : ℕ = kindOf y in
+        let v : ℕ = numberOf y in
+        let p : span 8 10 k ≡ false = plain k (omega arith) in
         let n : (k ≡ 5) ⊎ (k ≡ 7) → ⊥ = neither k 5 7 (omega arith) (omega arith) in
         let B = none-moves k (q .depth) st (neither k 4 6 (omega arith) (omega arith)) n in
         let z : endsSide k ≡ false = no-end k (omega arith) in
-        let c : q .count + 1 ≡ countAfter (partOf (q .part)) k (q .count) = count-side (q .part) k (q .count) z (rw (sided-is (q .part), H .0) (or-right (eqb (q .part) 0))) in
-        turned R (omega arith) (tells-plain bs i (omega arith) (omega arith) y)
-        (old-steps q H k 0 low (omega arith) (λ w. absurd (neither k 6 7 (omega arith) (omega arith) w)) st (ready R) (alone k (stack (q .depth) st) (omega arith) n) (rw y) false (fresh-plain (q .set) k 0 y) refl
-        (q .depth) st _ (B .0) (B .1) (moved-old q (entireOf k 0) (q .part) (q .depth) false (q .count + 1) c (H .0) refl)) refl refl b eb
+        let w : q .count + 1 ≡ countAfter (partOf (q .part)) k (q .count) = count-side (q .part) k (q .count) z (rw (sided-is (q .part), H .0) (or-right (eqb (q .part) 0))) in
+        turned R A (told-by y (got-number A))
+        (old-steps q H k v low (omega arith) (λ w. absurd (neither k 6 7 (omega arith) (omega arith) w)) st (ready R) (alone k (stack (q .depth) st) (omega arith) n) (rw p) false (fresh-plain (q .set) k v p) refl
+        (q .depth) st _ (B .0) (B .1) (moved-old q k v (q .part) (q .depth) false (q .count + 1) w (H .0) refl)) refl refl
 
-  pub bracket-on : {r : Taken} {st′ : List ℕ} (b : ℕ) → b ≡ body (getD bs i 0) → b ≤ 4 → i + 5 ≤ length bs → getD bs i 0 < 8 → Tried q (entireOf (getD bs i 0) 0) st r st′ → r .fault ≡ 0 → length st′ ≡ length st
-      → Reading found bs (i + 1 + b) (r .next) st′
-  bracket-on b eb lb l h T f m = turned R (omega arith) (tells-plain bs i (omega arith) (omega arith) (plain (getD bs i 0) h)) (T .steps f) f m b eb
+    pub bracket-on : {r : Taken} {st′ : List ℕ} {k : ℕ} → k ≡ kindOf y → k < 8 → Tried q k 0 st r st′ → r .fault ≡ 0 → length st′ ≡ length st → Reading found bs (c .at) (r .next) st′
+    bracket-on {k = k} e h T f m = turned R A (tells-plain (told-as y (got-number A) e refl) (plain k h)) (T .steps f) f m
 
-  pub variable-on : {r : Taken} → i + 5 ≤ length bs → 8 ≤ getD bs i 0 → getD bs i 0 ≤ 10 → Tried q (entireOf (getD bs i 0) (getD bs (i + 1) 0)) st r st → r .fault ≡ 0 → Reading found bs (i + 2) (r .next) st
-  unfolding span
-  variable-on l low high T f =
-      let b : body (getD bs i 0) ≡ 1 = body-one (getD bs i 0) (rw (le-leb 8 (getD bs i 0) low, le-leb (getD bs i 0) 10 high)) in
-      let n : i + 1 + 1 ≡ i + 2 = omega arith in
-      rw n at (turned R (omega arith) (tells bs i (omega arith) (omega arith)) (T .steps f) f refl 1 (sym b))
+    pub variable-on : {r : Taken} {k v : ℕ} → k ≡ kindOf y → v ≡ numberOf y → Tried q k v st r st → r .fault ≡ 0 → Reading found bs (c .at) (r .next) st
+    variable-on e n T f = turned R A (told-as y (got-number A) e n) (T .steps f) f refl
 
   pub same-stack : {st′ : List ℕ} → st′ ≡ st → Reading found bs i q st′
   same-stack e = rw e R

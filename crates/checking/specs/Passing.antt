@@ -8,21 +8,16 @@ use lib.ListN.{length, drop}
 use Rattle.meaning.specs.Elements.{elements}
 use Rattle.meaning.specs.Goodness.{State as Stage, span, underLimit, firstBad}
 use Rattle.taking.specs.declared.State.{State}
-use Rattle.taking.specs.declared.Item.{Item}
 use Rattle.taking.specs.declared.Taken.{Taken}
 use Rattle.taking.specs.Standing.{partOf, Means, Ready, Steps}
-
--- an element with its whole body
-abbrev pub entireOf : ℕ → ℕ → Item
-entireOf k v = record { kind = k; whole = true; value = v }
 
 -- a side of a sentence, and it may have an element more
 abbrev pub HasRoom : State → Type 0
 HasRoom q = (span 3 4 (q .part) ≡ true) × (underLimit (partOf (q .part)) (q .count) ≡ true)
 
 -- where no fault is named, a step of the check was made within the part; else the stack is as it was
-pub record Tried (q : State) (e : Item) (st : List ℕ) (r : Taken) (st′ : List ℕ) : Type 0 where
-  pub steps : r .fault ≡ 0 → Steps q e st r st′
+pub record Tried (q : State) (k v : ℕ) (st : List ℕ) (r : Taken) (st′ : List ℕ) : Type 0 where
+  pub steps : r .fault ≡ 0 → Steps q k v st r st′
   pub part : r .next .part ≡ q .part
   pub kept : (r .fault ≡ 0 → ⊥) → st′ ≡ st
 

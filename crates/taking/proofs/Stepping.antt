@@ -225,3 +225,6 @@ told-by y h =
       whole-is = ap suc (digits-length (body (kindOf y)) (numberOf y));
       pair = λ z. let w = span-le 8 10 (kindOf y) z in let b = body-var (kindOf y) (w .0) (w .1) in rw b (ap {B = List ℕ} (λ l. kindOf y ∷ l) (digits-one (numberOf y) (rw b at h)));
     }
+
+pub told-as : (y : Read) {k v : ℕ} → numberOf y < 256 ^ body (kindOf y) → k ≡ kindOf y → v ≡ numberOf y → Tells k v (bytesOf y)
+told-as y h e n = rw (e, n) (told-by y h)
