@@ -1,10 +1,8 @@
 // Kinds and what they fix: the length of a body, the slot of a variable; and sets of slots as the bits of a number.
 ghost use mathlib.Core.Path.{_≡_};
 ghost use Prim.Native.Nat.{_≤_, _<_};
-ghost use lib.ListN.{length};
 ghost use Rattle.meaning.specs.Elements.{body};
 ghost use Rattle.kinds.specs.Slots.{slotOf, within, joined};
-ghost use Rattle.kinds.specs.Characters.{Characters};
 
 // The table of body lengths, three bits for each kind from 00 on: an array would be laid out anew at each read.
 const BODIES: u64 = 1100736891016;
@@ -43,19 +41,4 @@ pub fn with(set: u64, slot: usize) -> u64
 {
     let one: u64 = 1;
     set | (one << (slot as u32))
-}
-
-// Past the characters that follow one another from `from` on: their stride is fixed, so that a processor can run ahead.
-pub fn past_characters(bytes: &[u8], from: usize) -> usize
-    requires { ⌜ from ≤ length (now bytes) ⌝ }
-    ensures { λ r. ⌜ Characters (now (bytes .entry)) from r ⌝ }
-{
-    let mut at = from;
-    while at + 1 < bytes.len() {
-        if bytes[at] != 1 {
-            return at;
-        }
-        at += 2;
-    }
-    at
 }
