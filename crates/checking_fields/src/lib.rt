@@ -60,7 +60,6 @@ fn depth_behind(x: Element, stack: &mut [u8], depth: usize) -> Behind
 
 // Where to go on behind an element: past the other characters of a run.
 fn onward(x: Element, next: Cursor, field: &[u8]) -> Cursor
-    requires { ⌜ next .at ≤ length (now field) ⌝ }
     ensures { λ r. ⌜ Characters (now (field .entry)) 256 (length (now (field .entry))) (next .at) (r .at) ⌝ }
 {
     match x {

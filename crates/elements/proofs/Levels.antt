@@ -71,10 +71,6 @@ pub characters-level : {s : List ℕ} {stop to at i : ℕ} → Level s at → to
 characters-level b l no-more = b
 characters-level {s} b l (one-more {i} c h e n) = character-behind s i (omega arith) (characters-level b l c) e
 
-pub characters-within : {s : List ℕ} {stop to at i : ℕ} → at ≤ length s → to ≤ length s → Characters s stop to at i → i ≤ length s
-characters-within h l no-more = h
-characters-within h l (one-more c k e n) = omega arith
-
 pub characters-on : {s : List ℕ} {stop to at i : ℕ} → Characters s stop to at i → at ≤ i
 characters-on no-more = omega arith
 characters-on (one-more c h e n) = let l = characters-on c in omega arith

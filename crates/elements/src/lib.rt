@@ -197,11 +197,15 @@ impl Cursor {
     // Past the characters that end before `to` at the latest, up to one with the code `stop`, if that is a byte. Most elements are
     // characters: their stride is fixed, so that a processor can run ahead.
     pub fn past_characters(self, s: &[u8], stop: u16, to: usize) -> Cursor
-        requires { ⌜ (self .at ≤ length (now s)) × (to ≤ length (now s)) ⌝ }
+        requires { ⌜ to ≤ length (now s) ⌝ }
         ensures { λ r. ⌜ Characters (now (s .entry)) stop to (self .at) (r .at) ⌝ }
     {
+        if to == 0 {
+            return self;
+        }
+        let last = to - 1;
         let mut at = self.at;
-        while at + 1 < to {
+        while at < last {
             if s[at] != 1 {
                 return Cursor { at };
             }
@@ -252,12 +256,13 @@ fn shut_end(s: &[u8], at: usize) -> usize
     let mut depth: usize = 1;
     while 0 < depth {
         c = c.past_characters(s, 256, s.len());
-        let passed = c.pass(s);
+        let i = c.at;
         // A closing bracket by itself: what stands behind it is read without waiting for a look-up.
-        if passed.kind == 5 {
+        if s[i] == 5 {
             depth = depth - 1;
-            c = Cursor { at: c.at + 1 };
+            c = Cursor { at: i + 1 };
         } else {
+            let passed = c.pass(s);
             depth = depth_after(passed.kind, depth);
             c = passed.next;
         }

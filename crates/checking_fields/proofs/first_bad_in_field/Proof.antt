@@ -35,9 +35,7 @@ enum-known-now : tie.Need-enum-known-now Inv-loop μ-loop
 enum-known-now c = search needs
 
 onward-requires : tie.Need-onward-requires Inv-loop μ-loop
-onward-requires c κs =
-    let x = c .before .before .before .before .before .before .before .before in
-    got-on (rw (x .x .given .1) at (x .before .before .read .ensures)) .1
+onward-requires c κs = search needs
 
 loop-less : tie.Need-loop-less Inv-loop μ-loop
 loop-less c =
