@@ -132,9 +132,9 @@ fn word(s: &[u8], at: usize) -> u32
     byte(s, at) + byte(s, at + 1) * 256
 }
 
-// The number in a body of at most four bytes.
+// The number in a body, which has none, one, two or four bytes.
 fn number_at(s: &[u8], at: usize, width: usize) -> u32
-    requires { ⌜ (at + width ≤ length (now s)) × (width ≤ 4) ⌝ }
+    requires { ⌜ (at + width ≤ length (now s)) × (width ≤ 4) × (width ≡ 3 → ⊥) ⌝ }
     ensures { λ r. ⌜ (digits width r ≡ take width (drop at (now (s .entry)))) × (r < 256 ^ width) ⌝ }
 {
     if width == 0 {
@@ -146,9 +146,6 @@ fn number_at(s: &[u8], at: usize, width: usize) -> u32
     let low = word(s, at);
     if width == 2 {
         return low;
-    }
-    if width == 3 {
-        return low + byte(s, at + 2) * 65536;
     }
     low + word(s, at + 2) * 65536
 }
@@ -234,7 +231,7 @@ pub fn symbol_end(s: &[u8], at: usize) -> Found
 }
 
 // The open brackets after an element of kind k.
-fn depth_after(k: u8, depth: usize) -> usize
+pub fn depth_after(k: u8, depth: usize) -> usize
     requires { ⌜ (1 ≤ depth) × (depth < 18446744073709551615) ⌝ }
     ensures { λ r. ⌜ r ≡ depthAfter k depth ⌝ }
 {

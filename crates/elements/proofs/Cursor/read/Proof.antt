@@ -1,6 +1,8 @@
 use Rattle.elements.proofs.Places.{read-low, read-high, read-short, read-got}
 use Rattle.elements.specs.Reading.{over}
+use mathlib.Core.Path.{sym, _∙_}
 use native.Mathlib.Omega.{arith}
+use Rattle.kinds.proofs.Bodies.{body-not-three}
 use borrow.Author.Needs.{needs}
 use Rattle.elements.proofs.Cursor.read.Statement.{statement}
 use Rattle.elements.proofs.Cursor.read.Tie as tie
@@ -30,7 +32,7 @@ add-number-at : tie.Need-add-number-at
 add-number-at c = search needs
 
 number-at-requires : tie.Need-number-at-requires
-number-at-requires c κs = search needs
+number-at-requires c κs = (omega arith, omega arith, λ e. body-not-three _ (sym (c .before .body-of .ensures .0) ∙ e))
 
 make-requires : tie.Need-make-requires
 make-requires c κs = (omega arith, omega arith, rw (c .before .before .body-of .ensures .0) at (c .number-at .ensures .1))
