@@ -35,7 +35,7 @@ pub struct Part {
 fn is_call(kind: u8) -> bool
     ensures { λ r. ⌜ r ≡ isCall (kind ∷ []) ⌝ }
 {
-    kind == 6 || kind == 7
+    kind == kinds::CALL || kind == kinds::RETURN
 }
 
 // The length of what the element program[at..at + len] gives.
@@ -52,7 +52,7 @@ fn span_of(program: &[u8], at: usize, len: usize, binds: &[usize]) -> usize
         return len;
     }
     let slot = kinds::slot(kind, program[at + 1]);
-    binds[slot + 48] - binds[slot]
+    binds[slot + kinds::SLOTS] - binds[slot]
 }
 
 // The number of call brackets, with an element of this kind more.
@@ -149,7 +149,7 @@ fn put_element(
     }
     let slot = kinds::slot(kind, program[at + 1]);
     let from = binds[slot];
-    put_part(arg, from, binds[slot + 48] - from, out, n)
+    put_part(arg, from, binds[slot + kinds::SLOTS] - from, out, n)
 }
 
 // Builds the side program[from..to] behind the first `start` bytes of `out`, and answers how many there are then.
@@ -208,7 +208,7 @@ fn pivot_part(program: &[u8], pivot: usize, to: usize, binds: &[usize]) -> Part
     let slot = kinds::slot(program[pivot], program[pivot + 1]);
     Part {
         from: binds[slot],
-        to: binds[slot + 48],
+        to: binds[slot + kinds::SLOTS],
         next: pivot + 2,
     }
 }

@@ -45,15 +45,15 @@ fn depth_behind(x: Element, stack: &mut [u8], depth: usize) -> Behind
         Element::Name(_) => Behind::Depth(depth),
         Element::Macrodigit(_) => Behind::Depth(depth),
         Element::Open => {
-            stack[depth] = 4;
+            stack[depth] = kinds::OPEN;
             Behind::Depth(depth + 1)
         }
-        Element::Close => closed(stack, depth, 4),
+        Element::Close => closed(stack, depth, kinds::OPEN),
         Element::Call(_) => {
-            stack[depth] = 6;
+            stack[depth] = kinds::CALL;
             Behind::Depth(depth + 1)
         }
-        Element::Return => closed(stack, depth, 6),
+        Element::Return => closed(stack, depth, kinds::CALL),
         _ => Behind::Fault,
     }
 }

@@ -154,9 +154,15 @@ module _ (s : List ℕ) (at : ℕ) (h : at < length s) where
         | head-close q e c ↦ absurd (n5 (ap kind e))
       ]
 
-  pub no-symbol-here : 3 < getD s at 0 → SymbolEnd s at Nothing
-  no-symbol-here l =
-      no-symbol (λ e es t q. never (let i : here s at h ≡ e = cc (cut-here s at h) in let w = symbol-kind e t in let z : kind e ≡ getD s at 0 = sym (ap kind i) ∙ kind-here s at h in omega arith))
+  pub no-symbol-here : isSymbol (getD s at 0 ∷ []) ≡ false → SymbolEnd s at Nothing
+  unfolding isSymbol
+  no-symbol-here z = no-symbol (λ e es t q. other e t (cc (cut-here s at h)))
+    where
+      other : (e : List ℕ) → T (isSymbol e) → here s at h ≡ e → ⊥
+      other e t i =
+          let k : kind e ≡ getD s at 0 = sym (ap kind i) ∙ kind-here s at h in
+          let y : isSymbol (getD s at 0 ∷ []) ≡ true = rw k at (T-true (isSymbol e) t) in
+          never (cc)
 
   pub open-here : {d : ℕ} → Balanced d (elements (drop at s)) → getD s at 0 ≡ 4 → Balanced (suc d) (elements (drop (at + 1) s))
   unfolding here body

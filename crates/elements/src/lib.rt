@@ -53,21 +53,21 @@ fn kind_of(x: Element) -> u8
     ensures { λ r. ⌜ r ≡ kindOf x ⌝ }
 {
     match x {
-        Element::Character(_) => 1,
-        Element::Name(_) => 2,
-        Element::Macrodigit(_) => 3,
-        Element::Open => 4,
-        Element::Close => 5,
-        Element::Call(_) => 6,
-        Element::Return => 7,
-        Element::SVariable(_) => 8,
-        Element::TVariable(_) => 9,
-        Element::EVariable(_) => 10,
-        Element::Equals => 11,
-        Element::SentenceEnd => 12,
-        Element::Header(_) => 13,
-        Element::FunctionEnd => 14,
-        Element::ProgramEnd => 15,
+        Element::Character(_) => kinds::CHARACTER,
+        Element::Name(_) => kinds::NAME,
+        Element::Macrodigit(_) => kinds::MACRODIGIT,
+        Element::Open => kinds::OPEN,
+        Element::Close => kinds::CLOSE,
+        Element::Call(_) => kinds::CALL,
+        Element::Return => kinds::RETURN,
+        Element::SVariable(_) => kinds::S_VARIABLE,
+        Element::TVariable(_) => kinds::T_VARIABLE,
+        Element::EVariable(_) => kinds::E_VARIABLE,
+        Element::Equals => kinds::EQUALS,
+        Element::SentenceEnd => kinds::SENTENCE_END,
+        Element::Header(_) => kinds::HEADER,
+        Element::FunctionEnd => kinds::FUNCTION_END,
+        Element::ProgramEnd => kinds::PROGRAM_END,
     }
 }
 
@@ -99,20 +99,20 @@ fn make(k: u8, n: u32) -> Element
     ensures { λ r. ⌜ (kindOf r ≡ k) × (numberOf r ≡ n) ⌝ }
 {
     match k {
-        1 => Element::Character(n),
-        2 => Element::Name(n),
-        3 => Element::Macrodigit(n),
-        4 => Element::Open,
-        5 => Element::Close,
-        6 => Element::Call(n),
-        7 => Element::Return,
-        8 => Element::SVariable(n),
-        9 => Element::TVariable(n),
-        10 => Element::EVariable(n),
-        11 => Element::Equals,
-        12 => Element::SentenceEnd,
-        13 => Element::Header(n),
-        14 => Element::FunctionEnd,
+        kinds::CHARACTER => Element::Character(n),
+        kinds::NAME => Element::Name(n),
+        kinds::MACRODIGIT => Element::Macrodigit(n),
+        kinds::OPEN => Element::Open,
+        kinds::CLOSE => Element::Close,
+        kinds::CALL => Element::Call(n),
+        kinds::RETURN => Element::Return,
+        kinds::S_VARIABLE => Element::SVariable(n),
+        kinds::T_VARIABLE => Element::TVariable(n),
+        kinds::E_VARIABLE => Element::EVariable(n),
+        kinds::EQUALS => Element::Equals,
+        kinds::SENTENCE_END => Element::SentenceEnd,
+        kinds::HEADER => Element::Header(n),
+        kinds::FUNCTION_END => Element::FunctionEnd,
         _ => Element::ProgramEnd,
     }
 }
@@ -163,7 +163,7 @@ impl Cursor {
         if k == 0 {
             return Reading::Unknown;
         }
-        if 15 < k {
+        if kinds::PROGRAM_END < k {
             return Reading::Unknown;
         }
         let width = kinds::body_of(k);
@@ -203,7 +203,7 @@ impl Cursor {
         let last = to - 1;
         let mut at = self.at;
         while at < last {
-            if s[at] != 1 {
+            if s[at] != kinds::CHARACTER {
                 return Cursor { at };
             }
             if s[at + 1] as u16 == stop {
@@ -224,7 +224,7 @@ pub fn symbol_end(s: &[u8], at: usize) -> Found
         return Found::Nothing;
     }
     let k = s[at];
-    if 3 < k {
+    if !kinds::is_symbol(k) {
         return Found::Nothing;
     }
     Found::At(at + 1 + kinds::body_of(k))
@@ -235,10 +235,10 @@ pub fn depth_after(k: u8, depth: usize) -> usize
     requires { ⌜ (1 ≤ depth) × (depth < 18446744073709551615) ⌝ }
     ensures { λ r. ⌜ r ≡ depthAfter k depth ⌝ }
 {
-    if k == 4 {
+    if k == kinds::OPEN {
         return depth + 1;
     }
-    if k == 5 {
+    if k == kinds::CLOSE {
         return depth - 1;
     }
     depth
@@ -255,7 +255,7 @@ fn shut_end(s: &[u8], at: usize) -> usize
         c = c.past_characters(s, 256, s.len());
         let i = c.at;
         // A closing bracket by itself: what stands behind it is read without waiting for a look-up.
-        if s[i] == 5 {
+        if s[i] == kinds::CLOSE {
             depth = depth - 1;
             c = Cursor { at: i + 1 };
         } else {
@@ -276,10 +276,10 @@ pub fn term_end(s: &[u8], at: usize) -> Found
         return Found::Nothing;
     }
     let k = s[at];
-    if k == 5 {
+    if k == kinds::CLOSE {
         return Found::Nothing;
     }
-    if k == 4 {
+    if k == kinds::OPEN {
         return Found::At(shut_end(s, at + 1));
     }
     Found::At(at + 1 + kinds::body_of(k))
@@ -335,7 +335,7 @@ fn shared_end(a: &[u8], b: &[u8], at: usize) -> Found
     let c = Cursor { at };
     let passed = c.pass(a);
     // Most elements are symbols: no element need be made of them.
-    if passed.kind <= 3 {
+    if kinds::is_symbol(passed.kind) {
         let next = passed.next;
         return shared_bytes(a, b, at, next.at);
     }
@@ -365,10 +365,10 @@ fn shared_characters(a: &[u8], b: &[u8], at: usize) -> usize
 {
     let mut i = at;
     while i < a.len() {
-        if a[i] != 1 {
+        if a[i] != kinds::CHARACTER {
             return i;
         }
-        if b[i] != 1 {
+        if b[i] != kinds::CHARACTER {
             return i;
         }
         if a[i + 1] != b[i + 1] {
