@@ -45,10 +45,7 @@ fn span_of(program: &[u8], at: usize, len: usize, binds: &[usize]) -> usize
     ensures { λ r. ⌜ r ≡ spanOf (now (binds .entry)) (take len (drop at (now (program .entry)))) ⌝ }
 {
     let kind = program[at];
-    if kind < 8 {
-        return len;
-    }
-    if 10 < kind {
+    if !kinds::is_variable(kind) {
         return len;
     }
     let slot = kinds::slot(kind, program[at + 1]);
@@ -67,10 +64,7 @@ fn counted(kind: u8, calls: usize) -> usize
 fn longer(best: Longest, kind: u8, at: usize, span: usize) -> Longest
     ensures { λ r. ⌜ (r .at ≡ best .at) ⊎ ((isVariable (kind ∷ []) ≡ true) × (r .at ≡ at)) ⌝ }
 {
-    if kind < 8 {
-        return best;
-    }
-    if 10 < kind {
+    if !kinds::is_variable(kind) {
         return best;
     }
     if span <= best.span {
@@ -141,10 +135,7 @@ fn put_element(
     ensures { λ r. ⌜ (r ≡ n + spanOf (now (binds .entry)) (take len (drop at (now (program .entry))))) × (take r (now (out .exit)) ≡ take n (now (out .entry)) ++ piece (now (arg .entry)) (now (binds .entry)) (take len (drop at (now (program .entry))))) ⌝ }
 {
     let kind = program[at];
-    if kind < 8 {
-        return put_part(program, at, len, out, n);
-    }
-    if 10 < kind {
+    if !kinds::is_variable(kind) {
         return put_part(program, at, len, out, n);
     }
     let slot = kinds::slot(kind, program[at + 1]);
