@@ -4,83 +4,22 @@ use mathlib.Core.Option.{none, some}
 use mathlib.Core.List.{List, _∷_, []}
 use Prim.Native.Nat.{ℕ, suc, _+_, _-_, _≤_, _<_}
 use native.Mathlib.Omega.{arith}
-use lib.ListN.{length, getD, take, drop, set, length-append, length-take, length-drop, drop-of-length-le}
+use lib.ListN.{length, getD, take, drop, length-append, length-take, length-drop, drop-of-length-le}
 use borrow.Author.Tests.{ne-eqb}
-use types.Run.{OneOf, miss}
-use denote.Enum.Declared.{tagOf}
-use Rattle.meaning.specs.Elements.{Element as Bytes, kind, body, cut, elements, join, isVariable}
-use Rattle.meaning.specs.Goodness.{field, at, span, stands, endsSide, paired, underLimit, tests, firstFailing, fault, partAfter, opensAfter, countAfter, variablesAfter, stateAfter, mayEnd, firstBad, badField}
+use Rattle.meaning.specs.Elements.{Element as Bytes, kind, body, cut, elements, join}
+use Rattle.meaning.specs.Goodness.{field, at, underLimit, tests, firstFailing, fault, partAfter, opensAfter, countAfter, variablesAfter, stateAfter, mayEnd, firstBad, badField}
 use Rattle.meaning.proofs.Cutting.{cut-at}
 use Rattle.kinds.specs.Stacks.{stack}
-use Rattle.kinds.proofs.Stacks.{stack-push, stack-pop, stack-empty}
+use Rattle.kinds.proofs.Stacks.{stack-empty}
 use Rattle.elements.specs.declared.Element.{Element}
-use Rattle.elements.proofs.Element.{the-type}
-use Rattle.elements.specs.declared.Element.the-variants.{Character, Name, Macrodigit, Open, Close, Call, Return, SVariable, TVariable, EVariable, Equals, SentenceEnd, Header, FunctionEnd, ProgramEnd}
 use Rattle.elements.specs.declared.Reading.the-variants.{Got, Unknown, Cut, End}
 use Rattle.elements.specs.declared.Cursor.{Cursor}
-use Rattle.elements.specs.Bytes.{digits}
 use Rattle.elements.specs.Reading.{Splits, ReadAt, over, unknown, short, got, Characters, no-more, one-more}
 use Rattle.elements.proofs.Places.{split-size}
 use Rattle.elements.proofs.Digits.{one-byte}
-use Rattle.checking_fields.specs.Fields.{within, badFrom, Closed, closes, stays, Turned, good, bad}
-use Rattle.checking_fields.specs.declared.Behind.{Behind}
+use Rattle.checking_fields.proofs.Turns.{character-good}
+use Rattle.checking_fields.specs.Fields.{within, badFrom, Turned, good, bad}
 use Rattle.checking_fields.specs.declared.Behind.the-variants.{Depth, Fault}
-
--- ---- one element
-
-abbrev others : List ℕ
-others = 7 ∷ 8 ∷ 9 ∷ 10 ∷ 11 ∷ 12 ∷ 13 ∷ 14 ∷ []
-
-module _ {st : List ℕ} {d : ℕ} where
-  pub turn-character : (n : ℕ) → Turned (Character n) st d (Depth d) st
-  unfolding fault tests firstFailing span stands paired endsSide underLimit isVariable body digits opensAfter
-  turn-character n = good refl refl (omega arith)
-
-  pub turn-name : (n : ℕ) → Turned (Name n) st d (Depth d) st
-  unfolding fault tests firstFailing span stands paired endsSide underLimit isVariable body digits opensAfter
-  turn-name n = good refl refl (omega arith)
-
-  pub turn-macrodigit : (n : ℕ) → Turned (Macrodigit n) st d (Depth d) st
-  unfolding fault tests firstFailing span stands paired endsSide underLimit isVariable body digits opensAfter
-  turn-macrodigit n = good refl refl (omega arith)
-
-  pub turn-open : d < length st → Turned Open st d (Depth (d + 1)) (set st d 4)
-  unfolding fault tests firstFailing span stands paired endsSide underLimit isVariable body digits opensAfter
-  turn-open h = good refl (stack-push d 4 st h) (omega arith)
-
-  pub turn-call : (n : ℕ) → d < length st → Turned (Call n) st d (Depth (d + 1)) (set st d 6)
-  unfolding fault tests firstFailing span stands paired endsSide underLimit isVariable body digits opensAfter
-  turn-call n h = good refl (stack-push d 6 st h) (omega arith)
-
-  pub turn-close : {r : Behind} → Closed st d 4 r → Turned Close st d r st
-  unfolding fault tests firstFailing span stands paired endsSide underLimit isVariable body digits opensAfter
-  turn-close (closes e) = good (rw e) (stack-pop d st) (omega arith)
-  turn-close (stays n) = bad (λ z. let w = rw (ne-eqb _ 4 n) at z in omega arith)
-
-  pub turn-return : {r : Behind} → Closed st d 6 r → Turned Return st d r st
-  unfolding fault tests firstFailing span stands paired endsSide underLimit isVariable body digits opensAfter
-  turn-return (closes e) = good (rw e) (stack-pop d st) (omega arith)
-  turn-return (stays n) = bad (λ z. let w = rw (ne-eqb _ 6 n) at z in omega arith)
-
-  pub turn-other : (x : Element) → OneOf others (tagOf the-type x) → Turned x st d Fault st
-  unfolding fault tests firstFailing span stands body digits
-  turn-other (Character n) k = absurd (miss others 0 tt k)
-  turn-other (Name n) k = absurd (miss others 1 tt k)
-  turn-other (Macrodigit n) k = absurd (miss others 2 tt k)
-  turn-other Open k = absurd (miss others 3 tt k)
-  turn-other Close k = absurd (miss others 4 tt k)
-  turn-other (Call n) k = absurd (miss others 5 tt k)
-  turn-other Return k = absurd (miss others 6 tt k)
-  turn-other (SVariable n) k = bad (λ z. omega arith)
-  turn-other (TVariable n) k = bad (λ z. omega arith)
-  turn-other (EVariable n) k = bad (λ z. omega arith)
-  turn-other Equals k = bad (λ z. omega arith)
-  turn-other SentenceEnd k = bad (λ z. omega arith)
-  turn-other (Header n) k = bad (λ z. omega arith)
-  turn-other FunctionEnd k = bad (λ z. omega arith)
-  turn-other ProgramEnd k = bad (λ z. omega arith)
-
--- ---- from element to element
 
 -- a field has no limits, so the elements before do not count
 uncounted : (n m i : ℕ) (opens : List ℕ) (es : List Bytes) → firstBad (at field opens n []) i es ≡ firstBad (at field opens m []) i es
@@ -147,10 +86,11 @@ module _ {f st : List ℕ} {i d : ℕ} (F : InField f st i d) where
 -- ---- characters
 
 one : (f opens : List ℕ) (i : ℕ) → i + 1 < length f → getD f i 0 ≡ 1 → badFrom f opens i ≡ badFrom f opens (i + 2)
-unfolding badFrom firstBad fault tests firstFailing span stands paired endsSide underLimit isVariable body opensAfter stateAfter partAfter variablesAfter
+unfolding badFrom firstBad body opensAfter stateAfter partAfter variablesAfter
 one f opens i l e =
     let n : i + 1 + 1 ≡ i + 2 = omega arith in
-    rw (cut-at f i (omega arith), e, one-byte f (i + 1) l, n) (uncounted (countAfter field 1 0) 0 (i + 2) opens (elements (drop (i + 2) f)))
+    rw (cut-at f i (omega arith), e, one-byte f (i + 1) l, character-good opens (getD f (i + 1) 0), n)
+    (uncounted (countAfter field 1 0) 0 (i + 2) opens (elements (drop (i + 2) f)))
 
 pub all : {f st : List ℕ} {stop to i j d : ℕ} → to ≤ length f → InField f st i d → Characters f stop to i j → InField f st j d
 all h F no-more = F

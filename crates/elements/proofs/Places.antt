@@ -68,8 +68,8 @@ module _ (s : List ℕ) (at : ℕ) (h : at < length s) where
   splits-here e = record { on = omega arith; fits = room e; front = cut-here }
 
   -- an element without a body is whole
-  pub bare-whole : (b : ℕ) → here ≡ b ∷ [] → body b ≡ 0 → length here ≡ suc (body (getD s at 0))
-  bare-whole b q z = ap length q ∙ (let e : getD s at 0 ≡ b = sym kind-here ∙ ap kind q in rw (e, z))
+  pub bare : (b : ℕ) → here ≡ b ∷ [] → body b ≡ 0 → length here ≡ suc (body (getD s at 0))
+  bare b q z = ap length q ∙ (let e : getD s at 0 ≡ b = sym kind-here ∙ ap kind q in rw (e, z))
 
   -- what a cursor reads
   pub read-low : getD s at 0 ≡ 0 → ReadAt s at Unknown
@@ -180,7 +180,7 @@ module _ (s : List ℕ) (at : ℕ) (h : at < length s) where
         | head-symbol t l c ↦ never (let w = symbol-kind _ t in let z = kind-here s at h in omega arith)
         | head-open q c ↦
             let z : at + 1 + body (getD s at 0) ≡ at + 1 = rw e (omega arith) in
-            rw (z, q) at (splits-here s at h (bare-whole s at h 4 q refl))
+            rw (z, q) at (splits-here s at h (bare s at h 4 q refl))
         | head-close q f c ↦ never (let w : getD s at 0 ≡ 5 = sym (kind-here s at h) ∙ ap kind f in omega arith)
       ]
 

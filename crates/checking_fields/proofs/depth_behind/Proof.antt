@@ -1,5 +1,5 @@
 use borrow.Author.Needs.{needs}
-use Rattle.checking_fields.proofs.Fields.{turn-character, turn-name, turn-macrodigit, turn-open, turn-close, turn-call, turn-return, turn-other}
+use Rattle.checking_fields.proofs.Turns.{turn-character, turn-name, turn-macrodigit, turn-open, turn-close, turn-call, turn-return, turn-other}
 use Rattle.checking_fields.proofs.depth_behind.Statement.{statement}
 use Rattle.checking_fields.proofs.depth_behind.Tie as tie
 

@@ -1,7 +1,7 @@
 use Rattle.elements.proofs.Digits.{four, one-byte, digits-one, digits-more, bytes-more}
 use Rattle.elements.specs.Bytes.{digits}
 use native.Mathlib.Omega.{arith}
-use mathlib.Core.Path.{_≡_, refl, sym, _∙_}
+use mathlib.Core.Path.{refl, sym, _∙_}
 use borrow.Author.Needs.{needs}
 use Rattle.elements.proofs.number_at.Statement.{statement}
 use Rattle.elements.proofs.number_at.Tie as tie

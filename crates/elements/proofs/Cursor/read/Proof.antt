@@ -14,10 +14,14 @@ shared-slice-read-k : tie.Need-shared-slice-read-k
 shared-slice-read-k c = search needs
 
 returns-2 : tie.Need-returns-2
-returns-2 c = read-low (c .before .before .before .before .args .s .now) (c .before .before .before .before .args .self .at) (omega arith) (c .if2 .taken)
+returns-2 c =
+    let s = c .before .before .before .before in
+    read-low (s .args .s .now) (s .args .self .at) (omega arith) (c .if2 .taken)
 
 returns-3 : tie.Need-returns-3
-returns-3 c = read-high (c .before .before .before .before .before .args .s .now) (c .before .before .before .before .before .args .self .at) (omega arith) (c .if3 .taken)
+returns-3 c =
+    let s = c .before .before .before .before .before in
+    read-high (s .args .s .now) (s .args .self .at) (omega arith) (c .if3 .taken)
 
 body-of-requires : tie.Need-body-of-requires
 body-of-requires c κs = search needs
@@ -26,7 +30,9 @@ sub-if4 : tie.Need-sub-if4
 sub-if4 c = search needs
 
 returns-4 : tie.Need-returns-4
-returns-4 c = read-short (c .before .before .before .before .before .before .before .args .s .now) (c .before .before .before .before .before .before .before .args .self .at) (omega arith) (c .before .before .before .if2 .left) (c .before .before .if3 .left) (rw (c .before .body-of .ensures .0) at (c .if4 .taken))
+returns-4 c =
+    let s = c .before .before .before .before .before .before .before in
+    read-short (s .args .s .now) (s .args .self .at) (omega arith) (c .before .before .before .if2 .left) (c .before .before .if3 .left) (rw (c .before .body-of .ensures .0) at (c .if4 .taken))
 
 add-number-at : tie.Need-add-number-at
 add-number-at c = search needs
@@ -44,7 +50,11 @@ add-t13 : tie.Need-add-t13
 add-t13 c = search needs
 
 returns-5 : tie.Need-returns-5
-returns-5 c = read-got (c .before .before .before .before .before .before .before .before .before .args .s .now) (c .before .before .before .before .before .before .before .before .before .args .self .at) (omega arith) _ _ _ (c .before .before .before .body-of .ensures .0) (omega arith) (c .before .number-at .ensures .0) (c .before .number-at .ensures .1) (c .make .ensures .0) (c .make .ensures .1)
+returns-5 c =
+    let n = c .before .number-at in
+    let b = c .before .before .before in
+    let s = b .before .before .before .before .before .before in
+    read-got (s .args .s .now) (s .args .self .at) (omega arith) _ _ _ (b .body-of .ensures .0) (omega arith) (n .ensures .0) (n .ensures .1) (c .make .ensures .0) (c .make .ensures .1)
 
 pub read-spec : {M : Type 1} → statement M
 read-spec =
