@@ -191,7 +191,7 @@ impl Cursor {
         }
     }
 
-    // Past the characters that end before `to` at the latest, up to one with the code `stop`, if that is a byte. Most elements are
+    // Past the characters that end at `to` at the latest, up to one with the code `stop`, if that is a byte. Most elements are
     // characters: their stride is fixed, so that a processor can run ahead.
     pub fn past_characters(self, s: &[u8], stop: u16, to: usize) -> Cursor
         requires { ⌜ to ≤ length (now s) ⌝ }
