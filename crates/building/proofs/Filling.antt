@@ -9,7 +9,7 @@ use native.Mathlib.Numerals.{add-one}
 use lib.ListN.{length, getD, take, drop, set, length-set}
 use lib.Seq.{sets}
 use lib.Dec.{eqb, leb}
-use borrow.Author.Tests.{eqb-true, ne-eqb, le-leb, lt-leb}
+use borrow.Author.Tests.{eqb-true, ne-eqb, lt-leb}
 use Rattle.meaning.specs.Elements.{Element, size, isVariable}
 use Rattle.meaning.proofs.Truth.{never, Seen, is-true, is-false, see}
 use Rattle.meaning.proofs.Cutting.{Whole, size-append}
@@ -198,10 +198,6 @@ is-call-yes k h = rw h
 
 pub is-call-else : (k : ℕ) (r : Bool) → (k ≡ 6 → ⊥) → r ≡ eqb k 7 → r ≡ isCall (k ∷ [])
 is-call-else k r n e = rw (ne-eqb k 6 n) e
-
-pub variable-kind : (k : ℕ) → 8 ≤ k → k ≤ 10 → isVariable (k ∷ []) ≡ true
-unfolding isVariable
-variable-kind k h l = rw (le-leb 8 k h, le-leb k 10 l)
 
 -- a call bracket gives itself
 pub call-span : (p : List ℕ) (at to : ℕ) (f b : List ℕ) (len : ℕ) → Walk p at to f b len → isCall (getD p at 0 ∷ []) ≡ true → spanOf b (take len (drop at p)) ≡ len

@@ -12,7 +12,7 @@ use Rattle.kinds.specs.Slots.{slotOf}
 use Rattle.scanning.proofs.Marks.{size-nil, size-cons, whole-left, whole-right, whole-first}
 use Rattle.building.specs.Build.{sideOf, piece, pour, Ready, ready-none, ready-more, spans, Pivot, at-end, at-variable, Parted}
 use Rattle.building.proofs.Sides.{drop-take, side-end, side-middle, side-behind, size-side, ready-first, var-range, Slot, slot}
-use Rattle.building.proofs.Spans.{Walk, walk, pour-long}
+use Rattle.building.proofs.Spans.{Walk, walk, pour-long, variable-by-kind}
 
 pour-append : (f b : List ℕ) (xs ys : List Element) → pour f b (xs ++ ys) ≡ pour f b xs ++ pour f b ys
 unfolding pour
@@ -97,7 +97,9 @@ module _ (p : List ℕ) (from to pivot : ℕ) (f b : List ℕ) (t : Turn p from 
   sorts = rw (step .sort) at (var-range (take (1 + body (getD p pivot 0)) (drop pivot p)) var-here)
 
   pub value : Slot p pivot (1 + body (getD p pivot 0)) f b (step .known) (getD p pivot 0) (getD p (pivot + 1) 0)
-  value = slot p pivot (1 + body (getD p pivot 0)) f b (step .known) (getD p pivot 0) (getD p (pivot + 1) 0) refl (sorts .0) (sorts .1) refl
+  value =
+      let v = sym (variable-by-kind _ (getD p pivot 0) (step .sort)) ∙ var-here in
+      slot p pivot (1 + body (getD p pivot 0)) f b (step .known) (getD p pivot 0) (getD p (pivot + 1) 0) refl v refl
 
   next-is : sideOf p (pivot + 2) to ≡ t .b
   next-is = let q = both in rw (← two) cc

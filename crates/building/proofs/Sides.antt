@@ -1,6 +1,6 @@
 -- Sides of a sentence: their elements one by one, and parts of them.
 use mathlib.Core.Path.{_≡_, refl, sym, _∙_, ap, ap₂, subst}
-use mathlib.Core.Bool.{true}
+use mathlib.Core.Bool.{true, false}
 use mathlib.Core.List.{List, [], _∷_, _++_, append-assoc}
 use Prim.Native.Nat.{ℕ, zero, suc, _+_, _-_, _≤_, _<_}
 use native.Mathlib.Omega.{arith}
@@ -8,10 +8,10 @@ use native.Mathlib.Nat.{zero-add, suc-add}
 use native.Mathlib.Numerals.{add-one}
 use lib.ListN.{length, getD, take, drop, length-append, length-take, length-drop, drop-of-length-le, take-append-drop}
 use lib.Seq.{getD-take, getD-drop, take-nil, drop-cons, take-take, length-take-le, take-at, drop-at}
-use lib.Dec.{leb, eqb}
-use borrow.Author.Tests.{le-leb, lt-leb, leb-true, eqb-true, eqb-false}
+use lib.Dec.{leb}
+use borrow.Author.Tests.{leb-true}
 use Rattle.meaning.specs.Elements.{Element, kind, body, cut, join, size, isVariable}
-use Rattle.meaning.proofs.Truth.{and-false, and-left, and-right, is-true, is-false, see, never}
+use Rattle.meaning.proofs.Truth.{and-left, and-right, never}
 use Rattle.meaning.proofs.Cutting.{Whole, w-none, w-more, cut-at, join-cut, join-append, size-append}
 use Rattle.kinds.specs.Slots.{slotOf, valueOf}
 use Rattle.scanning.proofs.Marks.{whole-left, whole-right, join-whole}
@@ -27,20 +27,22 @@ module _ (p : List ℕ) (at len : ℕ) (f b : List ℕ) (w : Known p at len f b)
       let q : at + 0 ≡ at = omega arith in
       kind-first (take len (drop at p)) ∙ getD-take len (drop at p) 0 0 (w .some) ∙ getD-drop at p 0 0 ∙ rw q
 
-  pub plain-low : (k : ℕ) → k ≡ getD p at 0 → k < 8 → piece f b (take len (drop at p)) ≡ take len (drop at p)
-  unfolding piece isVariable
-  plain-low k e h = rw (kind-is, lt-leb 8 (getD p at 0) (omega arith))
-
-  pub plain-high : (k : ℕ) → k ≡ getD p at 0 → 10 < k → piece f b (take len (drop at p)) ≡ take len (drop at p)
-  unfolding piece isVariable
-  plain-high k e h = rw (kind-is, lt-leb (getD p at 0) 10 (omega arith), and-false)
-
-  pub var-yes : (k : ℕ) → k ≡ getD p at 0 → 8 ≤ k → k ≤ 10 → isVariable (take len (drop at p)) ≡ true
+  same-test : (k : ℕ) → k ≡ getD p at 0 → isVariable (k ∷ []) ≡ isVariable (take len (drop at p))
   unfolding isVariable
-  var-yes k e h l = rw (kind-is, le-leb 8 (getD p at 0) (omega arith), le-leb (getD p at 0) 10 (omega arith))
+  same-test k e = rw (kind-is, e)
 
-  pub var-next : (k : ℕ) → k ≡ getD p at 0 → 8 ≤ k → k ≤ 10 → at + 1 < length p
-  var-next k e h l = let z = w .var (var-yes k e h l) .0 in let y = w .within in omega arith
+  pub plain : (k : ℕ) → k ≡ getD p at 0 → isVariable (k ∷ []) ≡ false → isVariable (take len (drop at p)) ≡ false
+  plain k e h = sym (same-test k e) ∙ h
+
+  pub plain-piece : (k : ℕ) → k ≡ getD p at 0 → isVariable (k ∷ []) ≡ false → piece f b (take len (drop at p)) ≡ take len (drop at p)
+  unfolding piece
+  plain-piece k e h = rw (plain k e h)
+
+  pub var-yes : (k : ℕ) → k ≡ getD p at 0 → isVariable (k ∷ []) ≡ true → isVariable (take len (drop at p)) ≡ true
+  var-yes k e h = sym (same-test k e) ∙ h
+
+  pub var-next : (k : ℕ) → k ≡ getD p at 0 → isVariable (k ∷ []) ≡ true → at + 1 < length p
+  var-next k e h = let z = w .var (var-yes k e h) .0 in let y = w .within in omega arith
 
   pub record Slot (k v : ℕ) : Type 0 where
     pub low : v < 16
@@ -48,10 +50,10 @@ module _ (p : List ℕ) (at len : ℕ) (f b : List ℕ) (w : Known p at len f b)
     pub fits : getD b (slotOf k v + 48) 0 ≤ length f
     pub is : piece f b (take len (drop at p)) ≡ take (getD b (slotOf k v + 48) 0 - getD b (slotOf k v) 0) (drop (getD b (slotOf k v) 0) f)
 
-  pub slot : (k v : ℕ) → k ≡ getD p at 0 → 8 ≤ k → k ≤ 10 → v ≡ getD p (at + 1) 0 → Slot k v
+  pub slot : (k v : ℕ) → k ≡ getD p at 0 → isVariable (k ∷ []) ≡ true → v ≡ getD p (at + 1) 0 → Slot k v
   unfolding piece valueOf
-  slot k v e h l q =
-      let y = var-yes k e h l in
+  slot k v e h q =
+      let y = var-yes k e h in
       let (n2, d) = w .var y in
       let ek : kind (take len (drop at p)) ≡ k = kind-is ∙ sym e in
       let ev : getD (take len (drop at p)) 1 0 ≡ v = getD-take len (drop at p) 1 0 (omega arith) ∙ getD-drop at p 1 0 ∙ sym q in
@@ -130,17 +132,6 @@ ready-first {f} {b} e es (ready-more {e = e′} {es = es′} h r) q =
 pub var-range : (e : Element) → isVariable e ≡ true → (8 ≤ kind e) × (kind e ≤ 10)
 unfolding isVariable
 var-range e h = (leb-true 8 (kind e) (and-left (leb 8 (kind e)) _ h), leb-true (kind e) 10 (and-right (leb 8 (kind e)) _ h))
-
-pub var-body : (k : ℕ) → 8 ≤ k → k ≤ 10 → body k ≡ 1
-unfolding body
-var-body k h l =
-    elim (see (eqb k 8)) [
-      | is-true z ↦ rw (eqb-true k 8 z)
-      | is-false z ↦ elim (see (eqb k 9)) [
-        | is-true y ↦ rw (eqb-true k 9 y)
-        | is-false y ↦ (let a = eqb-false k 8 z in let b = eqb-false k 9 y in let q : k ≡ 10 = omega arith in rw q)
-      ]
-    ]
 
 pub join-side : (f : List ℕ) (lo hi : ℕ) → join (sideOf f lo hi) ≡ drop lo (take hi f)
 unfolding sideOf

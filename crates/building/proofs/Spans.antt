@@ -6,14 +6,14 @@ use Prim.Native.Nat.{ℕ, suc, _+_, _-_, _≤_, _<_}
 use native.Mathlib.Omega.{arith}
 use lib.ListN.{length, getD, take, drop, length-append, length-take, length-drop}
 use lib.Seq.{getD-take, getD-drop}
-use borrow.Author.Tests.{lt-leb}
 use Rattle.meaning.specs.Elements.{Element, kind, body, isVariable}
-use Rattle.meaning.proofs.Truth.{is-true, is-false, see, and-false}
+use Rattle.meaning.proofs.Truth.{is-true, is-false, see}
 use Rattle.meaning.proofs.Cutting.{Whole, body-le}
+use Rattle.kinds.proofs.Bodies.{body-var}
 use Rattle.kinds.specs.Slots.{slotOf, valueOf}
 use Rattle.building.specs.Build.{sideOf, piece, pour, Held, Ready, ready-none, ready-more, Known, spanOf, spans, callsOf, placed}
 use Rattle.scanning.specs.State.{isCall}
-use Rattle.building.proofs.Sides.{kind-first, kind-is, var-yes, side-is, side-within, side-rest, ready-first, var-range, var-body}
+use Rattle.building.proofs.Sides.{kind-first, kind-is, plain, var-yes, side-is, side-within, side-rest, ready-first, var-range}
 
 pub span-plain : (b : List ℕ) (e : Element) → isVariable e ≡ false → spanOf b e ≡ length e
 unfolding spanOf
@@ -23,18 +23,13 @@ module _ (p : List ℕ) (at len : ℕ) (f b : List ℕ) (w : Known p at len f b)
   long-known : length (take len (drop at p)) ≡ len
   long-known = let y = w .within in omega (arith, length-take len (drop at p), length-drop at p)
 
-  pub span-low : (k : ℕ) → k ≡ getD p at 0 → k < 8 → len ≡ spanOf b (take len (drop at p))
-  unfolding isVariable
-  span-low k e h = sym (span-plain b _ (rw (kind-is p at len f b w, lt-leb 8 (getD p at 0) (omega arith))) ∙ long-known)
+  pub span-fixed : (k : ℕ) → k ≡ getD p at 0 → isVariable (k ∷ []) ≡ false → len ≡ spanOf b (take len (drop at p))
+  span-fixed k e h = sym (span-plain b _ (plain p at len f b w k e h) ∙ long-known)
 
-  pub span-high : (k : ℕ) → k ≡ getD p at 0 → 10 < k → len ≡ spanOf b (take len (drop at p))
-  unfolding isVariable
-  span-high k e h = sym (span-plain b _ (rw (kind-is p at len f b w, lt-leb (getD p at 0) 10 (omega arith), and-false)) ∙ long-known)
-
-  pub span-var : (k v : ℕ) → k ≡ getD p at 0 → 8 ≤ k → k ≤ 10 → v ≡ getD p (at + 1) 0 → getD b (slotOf k v + 48) 0 - getD b (slotOf k v) 0 ≡ spanOf b (take len (drop at p))
+  pub span-var : (k v : ℕ) → k ≡ getD p at 0 → isVariable (k ∷ []) ≡ true → v ≡ getD p (at + 1) 0 → getD b (slotOf k v + 48) 0 - getD b (slotOf k v) 0 ≡ spanOf b (take len (drop at p))
   unfolding spanOf
-  span-var k v e h l q =
-      let y = var-yes p at len f b w k e h l in
+  span-var k v e h q =
+      let y = var-yes p at len f b w k e h in
       let n2 = w .var y .0 in
       let ek : kind (take len (drop at p)) ≡ k = kind-is p at len f b w ∙ sym e in
       let ev : getD (take len (drop at p)) 1 0 ≡ v = getD-take len (drop at p) 1 0 (omega arith) ∙ getD-drop at p 1 0 ∙ sym q in
@@ -88,7 +83,7 @@ walk p at to f b fits h w r len e =
       known = record {
         within = omega arith;
         some = omega arith;
-        var = λ v. (let g = var-range (take len (drop at p)) v in omega (arith, var-body (getD p at 0) (omega arith) (omega arith)), y .0 v);
+        var = λ v. (let g = var-range (take len (drop at p)) v in omega (arith, body-var (getD p at 0) (omega arith) (omega arith)), y .0 v);
       };
       whole = rw q (side-rest p at to fits h w);
       ready = y .1;

@@ -35,7 +35,7 @@ pub struct Part {
 fn is_call(kind: u8) -> bool
     ensures { λ r. ⌜ r ≡ isCall (kind ∷ []) ⌝ }
 {
-    kind == 6 || kind == 7
+    kind == kinds::CALL || kind == kinds::RETURN
 }
 
 // The length of what the element program[at..at + len] gives.
@@ -45,14 +45,11 @@ fn span_of(program: &[u8], at: usize, len: usize, binds: &[usize]) -> usize
     ensures { λ r. ⌜ r ≡ spanOf (now (binds .entry)) (take len (drop at (now (program .entry)))) ⌝ }
 {
     let kind = program[at];
-    if kind < 8 {
-        return len;
-    }
-    if 10 < kind {
+    if !kinds::is_variable(kind) {
         return len;
     }
     let slot = kinds::slot(kind, program[at + 1]);
-    binds[slot + 48] - binds[slot]
+    binds[slot + kinds::SLOTS] - binds[slot]
 }
 
 // The number of call brackets, with an element of this kind more.
@@ -67,10 +64,7 @@ fn counted(kind: u8, calls: usize) -> usize
 fn longer(best: Longest, kind: u8, at: usize, span: usize) -> Longest
     ensures { λ r. ⌜ (r .at ≡ best .at) ⊎ ((isVariable (kind ∷ []) ≡ true) × (r .at ≡ at)) ⌝ }
 {
-    if kind < 8 {
-        return best;
-    }
-    if 10 < kind {
+    if !kinds::is_variable(kind) {
         return best;
     }
     if span <= best.span {
@@ -141,15 +135,12 @@ fn put_element(
     ensures { λ r. ⌜ (r ≡ n + spanOf (now (binds .entry)) (take len (drop at (now (program .entry))))) × (take r (now (out .exit)) ≡ take n (now (out .entry)) ++ piece (now (arg .entry)) (now (binds .entry)) (take len (drop at (now (program .entry))))) ⌝ }
 {
     let kind = program[at];
-    if kind < 8 {
-        return put_part(program, at, len, out, n);
-    }
-    if 10 < kind {
+    if !kinds::is_variable(kind) {
         return put_part(program, at, len, out, n);
     }
     let slot = kinds::slot(kind, program[at + 1]);
     let from = binds[slot];
-    put_part(arg, from, binds[slot + 48] - from, out, n)
+    put_part(arg, from, binds[slot + kinds::SLOTS] - from, out, n)
 }
 
 // Builds the side program[from..to] behind the first `start` bytes of `out`, and answers how many there are then.
@@ -208,7 +199,7 @@ fn pivot_part(program: &[u8], pivot: usize, to: usize, binds: &[usize]) -> Part
     let slot = kinds::slot(program[pivot], program[pivot + 1]);
     Part {
         from: binds[slot],
-        to: binds[slot + 48],
+        to: binds[slot + kinds::SLOTS],
         next: pivot + 2,
     }
 }

@@ -1,3 +1,4 @@
+pub mod Turns
 pub mod Fields
 pub mod Scratch
 pub mod Only

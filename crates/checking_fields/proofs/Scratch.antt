@@ -1,33 +1,14 @@
--- The scratch: cleared from the front, and what the check of a field leaves of it.
+-- The scratch: what the check of a field leaves of it.
 use mathlib.Core.Path.{_≡_, refl, _∙_}
 use mathlib.Core.List.{List, _++_, append-nil}
-use Prim.Native.Nat.{ℕ, _+_, _≤_, _<_}
+use Prim.Native.Nat.{ℕ, _+_, _-_, _≤_, _<_}
 use native.Mathlib.Omega.{arith}
-use lib.ListN.{length, replicate, drop, set, length-set, drop-of-length-le}
-use borrow.Author.Fill.{fill-more}
+use lib.ListN.{length, replicate, take, drop, drop-of-length-le}
 use borrow.Author.Tests.{lt-ltb, le-ltb}
 use Rattle.meaning.specs.Goodness.{badField}
 use Rattle.checking_fields.specs.declared.FieldCheck.{FieldCheck}
 use Rattle.checking_fields.specs.declared.FieldCheck.the-variants.{Short}
 use Rattle.checking_fields.specs.Answers.{checkOf, fieldCheck, scratchAfter}
-
-pub record Clearing (old now : List ℕ) (i : ℕ) : Type 0 where
-  pub inside : i ≤ length old
-  pub is : now ≡ replicate i 0 ++ drop i old
-  pub long : length now ≡ length old
-
-pub clear-none : (old : List ℕ) → Clearing old old 0
-clear-none old = record { inside = omega arith; is = refl; long = refl }
-
-pub clear-more : (old now : List ℕ) (i : ℕ) → Clearing old now i → i < length now → Clearing old (set now i 0) (i + 1)
-clear-more old now i C h =
-    let l : i < length old = omega (arith, C .long) in
-    record { inside = omega arith; is = rw (C .is) (fill-more i 0 old l); long = length-set now i 0 ∙ C .long }
-
-pub clear-all : (old now : List ℕ) (i : ℕ) → Clearing old now i → length now ≤ i → now ≡ replicate (length old) 0
-clear-all old now i C h =
-    let e : i ≡ length old = omega (arith, C .long, C .inside) in
-    C .is ∙ rw (drop-of-length-le old {i = i} (omega arith), e) (append-nil (replicate (length old) 0))
 
 -- the answer, and the scratch afterwards
 module _ (f old : List ℕ) where
@@ -38,6 +19,10 @@ module _ (f old : List ℕ) where
   unfolding fieldCheck scratchAfter
   too-short h = rw (lt-ltb (length old) (length f) h) (refl, refl)
 
-  pub checked : {r : FieldCheck} {now : List ℕ} {n : ℕ} → length f ≤ length old → r ≡ checkOf (badField f) → n ≡ length old → now ≡ replicate n 0 → Answers r now
+  -- used keeps the length, and is cleared from end to end
+  pub checked : {r : FieldCheck} (used : List ℕ) {now : List ℕ} → length f ≤ length old → r ≡ checkOf (badField f) → length used ≡ length old
+      → now ≡ take 0 used ++ replicate (length used - 0) 0 ++ drop (length used) used → Answers r now
   unfolding fieldCheck scratchAfter
-  checked h e l z = rw (le-ltb (length old) (length f) h, e, z, l) (refl, refl)
+  checked used h e l z =
+      let n : length used - 0 ≡ length old = omega arith in
+      rw (le-ltb (length old) (length f) h) (e, z ∙ rw (drop-of-length-le used {i = length used} (omega arith), n) (append-nil (replicate (length old) 0)))

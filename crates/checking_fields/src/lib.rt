@@ -1,13 +1,14 @@
 // Whether bytes are a good field, and if not, where the first bad element stands.
+use elements::Cursor;
+use elements::Element;
+use elements::Reading;
 ghost use mathlib.Core.Path.{_≡_};
-ghost use mathlib.Core.Bool.{true, false, _||_};
-ghost use mathlib.Core.List.{List};
-ghost use Prim.Native.Nat.{ℕ, _+_, _^_, _≤_, _<_};
+ghost use Prim.Native.Nat.{_≤_, _<_};
 ghost use lib.ListN.{length, replicate};
-ghost use lib.Dec.{leb, ltb};
-ghost use Rattle.meaning.specs.Elements.{Element};
-ghost use Rattle.meaning.specs.Goodness.{at, span, implies, endsSide, top, paired, underLimit, firstFailing, sided, countAfter, mayEnd, badProgram, badField};
+ghost use Rattle.meaning.specs.Goodness.{badField};
+ghost use Rattle.elements.specs.Reading.{Characters};
 ghost use Rattle.checking_fields.specs.Answers.{checkOf, fieldCheck, scratchAfter};
+ghost use Rattle.checking_fields.specs.Fields.{Closed, Turned};
 
 // What the check finds: nothing bad; the place of the first bad element; or that the scratch is shorter than the field.
 pub enum FieldCheck {
@@ -16,13 +17,54 @@ pub enum FieldCheck {
     Short,
 }
 
-fn clear(bytes: &mut [u8])
-    ensures { λ _. ⌜ now (bytes .exit) ≡ replicate (length (now (bytes .entry))) 0 ⌝ }
+// What an element does to the open brackets: so many are open behind it; or it is bad.
+enum Behind {
+    Depth(usize),
+    Fault,
+}
+
+// The closing of the latest open bracket, which has to be of the kind `opening`.
+fn closed(stack: &[u8], depth: usize, opening: u8) -> Behind
+    requires { ⌜ (depth ≤ length (now stack)) × (1 ≤ opening) ⌝ }
+    ensures { λ r. ⌜ Closed (now (stack .entry)) depth opening r ⌝ }
 {
-    let mut i = 0;
-    while i < bytes.len() {
-        bytes[i] = 0;
-        i += 1;
+    if taking::top_of(stack, depth) == opening {
+        Behind::Depth(depth - 1)
+    } else {
+        Behind::Fault
+    }
+}
+
+// What one element of a field does to the open brackets, which stand at the front of the stack.
+fn depth_behind(x: Element, stack: &mut [u8], depth: usize) -> Behind
+    requires { ⌜ depth < length (now stack) ⌝ }
+    ensures { λ r. ⌜ Turned x (now (stack .entry)) depth r (now (stack .exit)) ⌝ }
+{
+    match x {
+        Element::Character(_) => Behind::Depth(depth),
+        Element::Name(_) => Behind::Depth(depth),
+        Element::Macrodigit(_) => Behind::Depth(depth),
+        Element::Open => {
+            stack[depth] = kinds::OPEN;
+            Behind::Depth(depth + 1)
+        }
+        Element::Close => closed(stack, depth, kinds::OPEN),
+        Element::Call(_) => {
+            stack[depth] = kinds::CALL;
+            Behind::Depth(depth + 1)
+        }
+        Element::Return => closed(stack, depth, kinds::CALL),
+        _ => Behind::Fault,
+    }
+}
+
+// Where to go on behind an element: past the other characters of a run.
+fn onward(x: Element, next: Cursor, field: &[u8]) -> Cursor
+    ensures { λ r. ⌜ Characters (now (field .entry)) 256 (length (now (field .entry))) (next .at) (r .at) ⌝ }
+{
+    match x {
+        Element::Character(_) => next.past_characters(field, 256, field.len()),
+        _ => next,
     }
 }
 
@@ -31,36 +73,26 @@ fn first_bad_in_field(field: &[u8], stack: &mut [u8]) -> FieldCheck
     requires { ⌜ length (now field) ≤ length (now stack) ⌝ }
     ensures { λ r. ⌜ r ≡ checkOf (badField (now (field .entry))) ⌝ }
 {
-    let mut at: usize = 0;
+    let mut c = Cursor { at: 0 };
     let mut depth: usize = 0;
-    while at < field.len() {
-        let kind = field[at];
-        let body = kinds::body_of(kind);
-        if field.len() - at <= body {
-            return FieldCheck::Bad(at);
-        }
-        match kind {
-            1 => at = kinds::past_characters(field, at + 2),
-            2 | 3 => at = at + 1 + body,
-            4 | 6 => {
-                stack[depth] = kind;
-                depth += 1;
-                at = at + 1 + body;
-            }
-            5 | 7 => {
-                if taking::top_of(stack, depth) != kind - 1 {
-                    return FieldCheck::Bad(at);
+    loop {
+        match c.read(field) {
+            Reading::Got(x, next) => match depth_behind(x, stack, depth) {
+                Behind::Depth(now) => {
+                    depth = now;
+                    c = onward(x, next, field);
                 }
-                depth -= 1;
-                at += 1;
+                Behind::Fault => return FieldCheck::Bad(c.at),
+            },
+            Reading::Unknown => return FieldCheck::Bad(c.at),
+            Reading::Cut => return FieldCheck::Bad(c.at),
+            Reading::End => {
+                if depth == 0 {
+                    return FieldCheck::Good;
+                }
+                return FieldCheck::Bad(c.at);
             }
-            _ => return FieldCheck::Bad(at),
         }
-    }
-    if depth == 0 {
-        FieldCheck::Good
-    } else {
-        FieldCheck::Bad(at)
     }
 }
 
@@ -72,6 +104,6 @@ pub fn check_field(field: &[u8], scratch: &mut [u8]) -> FieldCheck
         return FieldCheck::Short;
     }
     let found = first_bad_in_field(field, scratch);
-    clear(scratch);
+    moving::clear(scratch, 0, scratch.len());
     found
 }

@@ -8,6 +8,10 @@ use lib.ListN.{length, getD, take, drop}
 use lib.Seq.{drop-cons, take-add, drop-drop}
 use Rattle.elements.specs.Bytes.{digits}
 
+-- a body with none of the other widths
+pub four : (w : ℕ) → w ≤ 4 → (w ≡ 3 → ⊥) → (w ≡ 0 → ⊥) → (w ≡ 1 → ⊥) → (w ≡ 2 → ⊥) → w ≡ 4
+four w h a b c d = omega arith
+
 -- one byte of a slice, and two
 pub one-byte : (s : List ℕ) (at : ℕ) → at < length s → take 1 (drop at s) ≡ getD s at 0 ∷ []
 one-byte s at h = rw (drop-cons s at 0 h)

@@ -15,7 +15,7 @@ use Rattle.meaning.proofs.Truth.{never, is-true, is-false, see}
 use Rattle.meaning.proofs.Searching.{Closing, closing-symbol, closing-open, closing-open₀, closing-close}
 use Rattle.elements.specs.Reading.{Splits, Balanced, ended, symbols, opening, closing, depthAfter, Characters, no-more, one-more, Level, TermEnd, term-at, Shutting, Shut}
 use Rattle.elements.specs.declared.Found.the-variants.{At}
-use Rattle.elements.proofs.Places.{here, bare-whole, cut-here, head-here, head-symbol, head-open, head-close, symbol-kind, symbol-here, none-left, splits-here, open-here, open-splits, split-join}
+use Rattle.elements.proofs.Places.{here, bare, cut-here, head-here, head-symbol, head-open, head-close, symbol-kind, symbol-here, none-left, splits-here, open-here, open-splits, split-join}
 
 pub closes : {d : ℕ} {es : List (List ℕ)} → Balanced d es → (n : ℕ) × Closing d n es
 unfolding Closing
@@ -70,10 +70,6 @@ module _ (s : List ℕ) (at : ℕ) (h : at < length s) (b : Level s at) (e : get
 pub characters-level : {s : List ℕ} {stop to at i : ℕ} → Level s at → to ≤ length s → Characters s stop to at i → Level s i
 characters-level b l no-more = b
 characters-level {s} b l (one-more {i} c h e n) = character-behind s i (omega arith) (characters-level b l c) e
-
-pub characters-within : {s : List ℕ} {stop to at i : ℕ} → at ≤ length s → to ≤ length s → Characters s stop to at i → i ≤ length s
-characters-within h l no-more = h
-characters-within h l (one-more c k e n) = omega arith
 
 pub characters-on : {s : List ℕ} {stop to at i : ℕ} → Characters s stop to at i → at ≤ i
 characters-on no-more = omega arith
@@ -199,7 +195,7 @@ module _ (s : List ℕ) (at i j : ℕ) (k : Seeking s at i (suc j)) (h : i < len
       elim (head-here s i h balanced) [
         | head-symbol t l b ↦ never (let w = symbol-kind _ t in omega arith)
         | head-open q b ↦
-            moved (suc (suc j)) (splits-here s i h (bare-whole s i h 4 q (unfold body in refl)) .fits) (omega arith)
+            moved (suc (suc j)) (splits-here s i h (bare s i h 4 q (unfold body in refl)) .fits) (omega arith)
             (rw (suc-add (suc j) (k .depth), suc-add j (k .depth)) b) (sym (shut-open j _ _ e) ∙ ap (λ (l : List (List ℕ)). shut l (suc j)) (sym (cut-here s i h)))
         | head-close q f b ↦ never (let w : getD s i 0 ≡ 5 = ap kind f in omega arith)
       ]
@@ -212,7 +208,7 @@ module _ (s : List ℕ) (at i j : ℕ) (k : Seeking s at i (suc j)) (h : i < len
         | head-open q b ↦ never (let w : getD s i 0 ≡ 4 = ap kind q in omega arith)
         | head-close {c} q f b ↦
             let z : c ≡ j + k .depth = omega arith in
-            moved j (splits-here s i h (bare-whole s i h 5 f (unfold body in refl)) .fits) (omega arith) (rw z at b)
+            moved j (splits-here s i h (bare s i h 5 f (unfold body in refl)) .fits) (omega arith) (rw z at b)
             (sym (shut-close j _ _ e) ∙ ap (λ (l : List (List ℕ)). shut l (suc j)) (sym (cut-here s i h)))
       ]
 

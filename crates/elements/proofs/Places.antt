@@ -68,8 +68,8 @@ module _ (s : List ℕ) (at : ℕ) (h : at < length s) where
   splits-here e = record { on = omega arith; fits = room e; front = cut-here }
 
   -- an element without a body is whole
-  pub bare-whole : (b : ℕ) → here ≡ b ∷ [] → body b ≡ 0 → length here ≡ suc (body (getD s at 0))
-  bare-whole b q z = ap length q ∙ (let e : getD s at 0 ≡ b = sym kind-here ∙ ap kind q in rw (e, z))
+  pub bare : (b : ℕ) → here ≡ b ∷ [] → body b ≡ 0 → length here ≡ suc (body (getD s at 0))
+  bare b q z = ap length q ∙ (let e : getD s at 0 ≡ b = sym kind-here ∙ ap kind q in rw (e, z))
 
   -- what a cursor reads
   pub read-got : (w n : ℕ) (x : Element) → w ≡ body (getD s at 0) → w < length s - at → digits w n ≡ take w (drop (at + 1) s) → n < 256 ^ w
@@ -187,9 +187,15 @@ module _ (s : List ℕ) (at : ℕ) (h : at < length s) where
         | head-close q e c ↦ absurd (n5 (ap kind e))
       ]
 
-  pub no-symbol-here : 3 < getD s at 0 → SymbolEnd s at Nothing
-  no-symbol-here l =
-      no-symbol (λ e es t q. never (let i : here s at h ≡ e = cc (cut-here s at h) in let w = symbol-kind e t in let z : kind e ≡ getD s at 0 = sym (ap kind i) ∙ kind-here s at h in omega arith))
+  pub no-symbol-here : isSymbol (getD s at 0 ∷ []) ≡ false → SymbolEnd s at Nothing
+  unfolding isSymbol
+  no-symbol-here z = no-symbol (λ e es t q. other e t (cc (cut-here s at h)))
+    where
+      other : (e : List ℕ) → T (isSymbol e) → here s at h ≡ e → ⊥
+      other e t i =
+          let k : kind e ≡ getD s at 0 = sym (ap kind i) ∙ kind-here s at h in
+          let y : isSymbol (getD s at 0 ∷ []) ≡ true = rw k at (T-true (isSymbol e) t) in
+          never (cc)
 
   pub open-here : {d : ℕ} → Balanced d (elements (drop at s)) → getD s at 0 ≡ 4 → Balanced (suc d) (elements (drop (at + 1) s))
   unfolding here body
@@ -207,7 +213,7 @@ module _ (s : List ℕ) (at : ℕ) (h : at < length s) where
         | head-symbol t l c ↦ never (let w = symbol-kind _ t in let z = kind-here s at h in omega arith)
         | head-open q c ↦
             let z : at + 1 + body (getD s at 0) ≡ at + 1 = rw e (omega arith) in
-            rw (z, q) at (splits-here s at h (bare-whole s at h 4 q refl))
+            rw (z, q) at (splits-here s at h (bare s at h 4 q refl))
         | head-close q f c ↦ never (let w : getD s at 0 ≡ 5 = sym (kind-here s at h) ∙ ap kind f in omega arith)
       ]
 

@@ -18,7 +18,7 @@ use Rattle.elements.specs.declared.Found.the-variants.{At, Nothing}
 use Rattle.elements.specs.Bytes.{kindOf, numberOf, digits, bytesOf, Told}
 use Rattle.elements.specs.Reading.{Splits, ReadAt, got, Proper, more, ProperAt, Shared, both, differ, Comparing}
 use Rattle.elements.proofs.Digits.{digits-same, two-bytes}
-use Rattle.elements.proofs.Places.{here, cut-here, none-left, proper-splits, split-bytes, split-size}
+use Rattle.elements.proofs.Places.{here, cut-here, proper-splits, split-bytes, split-size}
 
 -- elements are equal exactly if their kinds and numbers are
 pub same-number : (x y : Element) (m n : ℕ) → numberOf x < 256 ^ body (kindOf x) → numberOf y < 256 ^ body (kindOf y) → kindOf x ≡ kindOf y → m ≡ numberOf x → n ≡ numberOf y

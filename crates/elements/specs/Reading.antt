@@ -76,7 +76,7 @@ pub data TermEnd (s : List ℕ) (at : ℕ) : Found → Type 0 where
 unfoldable pub depthAfter : ℕ → ℕ → ℕ
 depthAfter k j = cond (eqb k 4) (j + 1) (cond (eqb k 5) (j - 1) j)
 
--- whole characters from `at` on that end before `to` at the latest, none with the code `stop`
+-- whole characters from `at` on that end at `to` at the latest, none with the code `stop`
 pub data Characters (s : List ℕ) (stop to at : ℕ) : ℕ → Type 0 where
   no-more : Characters s stop to at at
   one-more : {i : ℕ} → Characters s stop to at i → i + 1 < to → getD s i 0 ≡ 1 → (getD s (i + 1) 0 ≡ stop → ⊥) → Characters s stop to at (i + 2)

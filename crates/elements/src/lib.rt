@@ -54,21 +54,21 @@ pub fn kind_of(x: Element) -> u8
     ensures { λ r. ⌜ r ≡ kindOf x ⌝ }
 {
     match x {
-        Element::Character(_) => 1,
-        Element::Name(_) => 2,
-        Element::Macrodigit(_) => 3,
-        Element::Open => 4,
-        Element::Close => 5,
-        Element::Call(_) => 6,
-        Element::Return => 7,
-        Element::SVariable(_) => 8,
-        Element::TVariable(_) => 9,
-        Element::EVariable(_) => 10,
-        Element::Equals => 11,
-        Element::SentenceEnd => 12,
-        Element::Header(_) => 13,
-        Element::FunctionEnd => 14,
-        Element::ProgramEnd => 15,
+        Element::Character(_) => kinds::CHARACTER,
+        Element::Name(_) => kinds::NAME,
+        Element::Macrodigit(_) => kinds::MACRODIGIT,
+        Element::Open => kinds::OPEN,
+        Element::Close => kinds::CLOSE,
+        Element::Call(_) => kinds::CALL,
+        Element::Return => kinds::RETURN,
+        Element::SVariable(_) => kinds::S_VARIABLE,
+        Element::TVariable(_) => kinds::T_VARIABLE,
+        Element::EVariable(_) => kinds::E_VARIABLE,
+        Element::Equals => kinds::EQUALS,
+        Element::SentenceEnd => kinds::SENTENCE_END,
+        Element::Header(_) => kinds::HEADER,
+        Element::FunctionEnd => kinds::FUNCTION_END,
+        Element::ProgramEnd => kinds::PROGRAM_END,
     }
 }
 
@@ -110,9 +110,9 @@ fn word(s: &[u8], at: usize) -> u32
     byte(s, at) + byte(s, at + 1) * 256
 }
 
-// The number in a body of at most four bytes.
+// The number in a body, which has none, one, two or four bytes.
 fn number_at(s: &[u8], at: usize, width: usize) -> u32
-    requires { ⌜ (at + width ≤ length (now s)) × (width ≤ 4) ⌝ }
+    requires { ⌜ (at + width ≤ length (now s)) × (width ≤ 4) × (width ≡ 3 → ⊥) ⌝ }
     ensures { λ r. ⌜ (digits width r ≡ take width (drop at (now (s .entry)))) × (r < 256 ^ width) ⌝ }
 {
     if width == 0 {
@@ -124,9 +124,6 @@ fn number_at(s: &[u8], at: usize, width: usize) -> u32
     let low = word(s, at);
     if width == 2 {
         return low;
-    }
-    if width == 3 {
-        return low + byte(s, at + 2) * 65536;
     }
     low + word(s, at + 2) * 65536
 }
@@ -262,15 +259,19 @@ impl Cursor {
         }
     }
 
-    // Past the characters that end before `to` at the latest, up to one with the code `stop`, if that is a byte. Most elements are
+    // Past the characters that end at `to` at the latest, up to one with the code `stop`, if that is a byte. Most elements are
     // characters: their stride is fixed, so that a processor can run ahead.
     pub fn past_characters(self, s: &[u8], stop: u16, to: usize) -> Cursor
-        requires { ⌜ (self .at ≤ length (now s)) × (to ≤ length (now s)) ⌝ }
+        requires { ⌜ to ≤ length (now s) ⌝ }
         ensures { λ r. ⌜ Characters (now (s .entry)) stop to (self .at) (r .at) ⌝ }
     {
+        if to == 0 {
+            return self;
+        }
+        let last = to - 1;
         let mut at = self.at;
-        while at + 1 < to {
-            if s[at] != 1 {
+        while at < last {
+            if s[at] != kinds::CHARACTER {
                 return Cursor { at };
             }
             if s[at + 1] as u16 == stop {
@@ -291,21 +292,21 @@ pub fn symbol_end(s: &[u8], at: usize) -> Found
         return Found::Nothing;
     }
     let k = s[at];
-    if 3 < k {
+    if !kinds::is_symbol(k) {
         return Found::Nothing;
     }
     Found::At(at + 1 + kinds::body_of(k))
 }
 
 // The open brackets after an element of kind k.
-fn depth_after(k: u8, depth: usize) -> usize
+pub fn depth_after(k: u8, depth: usize) -> usize
     requires { ⌜ (1 ≤ depth) × (depth < 18446744073709551615) ⌝ }
     ensures { λ r. ⌜ r ≡ depthAfter k depth ⌝ }
 {
-    if k == 4 {
+    if k == kinds::OPEN {
         return depth + 1;
     }
-    if k == 5 {
+    if k == kinds::CLOSE {
         return depth - 1;
     }
     depth
@@ -320,12 +321,13 @@ fn shut_end(s: &[u8], at: usize) -> usize
     let mut depth: usize = 1;
     while 0 < depth {
         c = c.past_characters(s, 256, s.len());
-        let passed = c.pass(s);
+        let i = c.at;
         // A closing bracket by itself: what stands behind it is read without waiting for a look-up.
-        if passed.kind == 5 {
+        if s[i] == kinds::CLOSE {
             depth = depth - 1;
-            c = Cursor { at: c.at + 1 };
+            c = Cursor { at: i + 1 };
         } else {
+            let passed = c.pass(s);
             depth = depth_after(passed.kind, depth);
             c = passed.next;
         }
@@ -342,10 +344,10 @@ pub fn term_end(s: &[u8], at: usize) -> Found
         return Found::Nothing;
     }
     let k = s[at];
-    if k == 5 {
+    if k == kinds::CLOSE {
         return Found::Nothing;
     }
-    if k == 4 {
+    if k == kinds::OPEN {
         return Found::At(shut_end(s, at + 1));
     }
     Found::At(at + 1 + kinds::body_of(k))
@@ -401,7 +403,7 @@ fn shared_end(a: &[u8], b: &[u8], at: usize) -> Found
     let c = Cursor { at };
     let passed = c.pass(a);
     // Most elements are symbols: no element need be made of them.
-    if passed.kind <= 3 {
+    if kinds::is_symbol(passed.kind) {
         let next = passed.next;
         return shared_bytes(a, b, at, next.at);
     }
@@ -431,10 +433,10 @@ fn shared_characters(a: &[u8], b: &[u8], at: usize) -> usize
 {
     let mut i = at;
     while i < a.len() {
-        if a[i] != 1 {
+        if a[i] != kinds::CHARACTER {
             return i;
         }
-        if b[i] != 1 {
+        if b[i] != kinds::CHARACTER {
             return i;
         }
         if a[i + 1] != b[i + 1] {

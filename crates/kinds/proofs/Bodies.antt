@@ -1,13 +1,13 @@
 -- The word of body lengths, read off the table once for all its entries.
 use mathlib.Core.Path.{_≡_}
-use mathlib.Core.Bool.{Bool, true, _||_}
+use mathlib.Core.Bool.{Bool, true, false, _||_, not}
 use native.Mathlib.Omega.{arith}
 use Prim.Native.Nat.{ℕ, _*_, _/_, _%_, _^_, _≤_, _<_}
 use lib.Dec.{eqb, leb}
 use lib.ListN.{getD, List·getD-eq-default}
-use borrow.Author.Tests.{eqb-true, lt-leb}
+use borrow.Author.Tests.{eqb-true, lt-leb, leb-true, leb-false}
 use Rattle.meaning.specs.Elements.{body, bodies}
-use Rattle.meaning.proofs.Truth.{T-true}
+use Rattle.meaning.proofs.Truth.{T-true, never, is-true, is-false, see}
 use Rattle.meaning.proofs.Tables.{table-at}
 
 three-bits : ℕ → ℕ → Bool
@@ -30,3 +30,17 @@ unfolding body one-for-variables
 body-var k h l =
     let q : one-for-variables k (getD bodies k 0) ≡ true = T-true _ (table-at one-for-variables bodies tt k (omega arith)) in
     eqb-true (getD bodies k 0) 1 (rw (lt-leb k 7 (omega arith), lt-leb 11 k (omega arith)) at q)
+
+none-of-three : ℕ → ℕ → Bool
+none-of-three k n = not (eqb n 3)
+
+-- no body has three bytes
+pub body-not-three : (k : ℕ) → body k ≡ 3 → ⊥
+unfolding body none-of-three
+body-not-three k e =
+    elim (see (leb 16 k)) [
+      | is-true z ↦ never (let u = body-unknown k (leb-true 16 k z) in omega arith)
+      | is-false z ↦
+          let q : none-of-three k (getD bodies k 0) ≡ true = T-true _ (table-at none-of-three bodies tt k (leb-false 16 k z)) in
+          never (let w : false ≡ true = rw e at q in cc)
+    ]

@@ -1,4 +1,3 @@
 pub mod Bodies
 pub mod Sets
-pub mod Runs
 pub mod Stacks

@@ -57,10 +57,10 @@ top-some zero s h = absurd (h refl)
 top-some (suc d) s h = rw sub-one
 
 -- what is on top is on a stack
-pub top-deep : (d : ℕ) (s : List ℕ) → 0 < top (stack d s) → 0 < d
+pub top-deep : (d : ℕ) (s : List ℕ) {t : ℕ} → t ≡ top (stack d s) → 0 < t → 0 < d
 unfolding stack
-top-deep zero s h = absurd (omega arith)
-top-deep (suc d) s h = omega arith
+top-deep zero s e h = absurd (omega arith)
+top-deep (suc d) s e h = omega arith
 
 -- a stack that is not empty: its top, and the rest
 pub stack-parts : (d : ℕ) (s : List ℕ) {i : ℕ} {rest : List ℕ} → i ∷ rest ≡ stack d s → (0 < d) × (i ≡ getD s (d - 1) 0) × (rest ≡ stack (d - 1) s)

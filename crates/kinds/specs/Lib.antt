@@ -1,3 +1,2 @@
 pub mod Slots
-pub mod Characters
 pub mod Stacks

@@ -1,10 +1,45 @@
 // Kinds and what they fix: the length of a body, the slot of a variable; and sets of slots as the bits of a number.
 ghost use mathlib.Core.Path.{_≡_};
+ghost use mathlib.Core.List.{_∷_, []};
 ghost use Prim.Native.Nat.{_≤_, _<_};
-ghost use lib.ListN.{length};
-ghost use Rattle.meaning.specs.Elements.{body};
+ghost use Rattle.meaning.specs.Elements.{body, isSymbol, isVariable};
 ghost use Rattle.kinds.specs.Slots.{slotOf, within, joined};
-ghost use Rattle.kinds.specs.Characters.{Characters};
+
+// The kinds, as document 01's table has them.
+pub const CHARACTER: u8 = 1;
+
+pub const NAME: u8 = 2;
+
+pub const MACRODIGIT: u8 = 3;
+
+pub const OPEN: u8 = 4;
+
+pub const CLOSE: u8 = 5;
+
+pub const CALL: u8 = 6;
+
+pub const RETURN: u8 = 7;
+
+pub const S_VARIABLE: u8 = 8;
+
+pub const T_VARIABLE: u8 = 9;
+
+pub const E_VARIABLE: u8 = 10;
+
+pub const EQUALS: u8 = 11;
+
+pub const SENTENCE_END: u8 = 12;
+
+pub const HEADER: u8 = 13;
+
+pub const FUNCTION_END: u8 = 14;
+
+pub const PROGRAM_END: u8 = 15;
+
+// How many slots variables have, and how long a table of their values' starts and ends is.
+pub const SLOTS: usize = 48;
+
+pub const BINDS: usize = 96;
 
 // The table of body lengths, three bits for each kind from 00 on: an array would be laid out anew at each read.
 const BODIES: u64 = 1100736891016;
@@ -13,11 +48,23 @@ const BODIES: u64 = 1100736891016;
 pub fn body_of(k: u8) -> usize
     ensures { λ r. ⌜ (r ≡ body k) × (r ≤ 4) ⌝ }
 {
-    if k < 16 {
+    if k <= PROGRAM_END {
         ((BODIES >> ((k as u32) * 3)) % 8) as usize
     } else {
         0
     }
+}
+
+pub fn is_symbol(kind: u8) -> bool
+    ensures { λ r. ⌜ r ≡ isSymbol (kind ∷ []) ⌝ }
+{
+    CHARACTER <= kind && kind <= MACRODIGIT
+}
+
+pub fn is_variable(kind: u8) -> bool
+    ensures { λ r. ⌜ r ≡ isVariable (kind ∷ []) ⌝ }
+{
+    S_VARIABLE <= kind && kind <= E_VARIABLE
 }
 
 // The slot of a variable: s-variables from 0 on, t-variables from 16 on, e-variables from 32 on.
@@ -25,7 +72,7 @@ pub fn slot(kind: u8, number: u8) -> usize
     requires { ⌜ (8 ≤ kind) × (kind ≤ 10) × (number ≤ 15) ⌝ }
     ensures { λ r. ⌜ (r ≡ slotOf kind number) × (r < 48) ⌝ }
 {
-    ((kind - 8) as usize) * 16 + (number as usize)
+    ((kind - S_VARIABLE) as usize) * 16 + (number as usize)
 }
 
 // Whether a slot is in a set.
@@ -43,19 +90,4 @@ pub fn with(set: u64, slot: usize) -> u64
 {
     let one: u64 = 1;
     set | (one << (slot as u32))
-}
-
-// Past the characters that follow one another from `from` on: their stride is fixed, so that a processor can run ahead.
-pub fn past_characters(bytes: &[u8], from: usize) -> usize
-    requires { ⌜ from ≤ length (now bytes) ⌝ }
-    ensures { λ r. ⌜ Characters (now (bytes .entry)) from r ⌝ }
-{
-    let mut at = from;
-    while at + 1 < bytes.len() {
-        if bytes[at] != 1 {
-            return at;
-        }
-        at += 2;
-    }
-    at
 }

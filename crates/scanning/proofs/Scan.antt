@@ -45,7 +45,7 @@ module _ (f : List ℕ) (at i : ℕ) (s : Seeking f at i) where
         let q : getD f i 0 ≡ k = cc in
         ap length e ∙ ap suc l ∙ ap (λ (n : ℕ). suc (body n)) (sym q)
 
-    pub within : i + 1 + body (getD f i 0) ≤ length f
+    within : i + 1 + body (getD f i 0) ≤ length f
     unfolding el
     within = omega (arith, long, length-take (body (getD f i 0)) (drop (i + 1) f), length-drop (i + 1) f)
 

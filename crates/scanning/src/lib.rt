@@ -34,10 +34,10 @@ fn next_bracket(field: &[u8], at: usize) -> usize
     let mut c = Cursor { at };
     while c.at < field.len() {
         let passed = c.pass(field);
-        if passed.kind == 6 {
+        if passed.kind == kinds::CALL {
             return c.at;
         }
-        if passed.kind == 7 {
+        if passed.kind == kinds::RETURN {
             return c.at;
         }
         let next = passed.next;
@@ -109,7 +109,7 @@ pub fn advance(field: &mut [u8], spread: Spread, calls: &mut [u16]) -> Mark
             return mark;
         }
         let at = mark.at;
-        if field[at] == 7 {
+        if field[at] == kinds::RETURN {
             return mark;
         }
         s = pass_call(field, mark.spread, at, calls);

@@ -1,7 +1,9 @@
-use mathlib.Core.Path.{refl}
+use mathlib.Core.Path.{refl, sym, _∙_}
+use mathlib.Core.List.{_∷_, []}
 use native.Mathlib.Omega.{arith}
-use Rattle.building.proofs.Sides.{var-next, slot}
-use Rattle.building.proofs.Spans.{span-low, span-high, span-var}
+use borrow.Author.Tests.{not-true, not-false}
+use Rattle.building.proofs.Sides.{var-range, var-next, slot}
+use Rattle.building.proofs.Spans.{span-fixed, span-var}
 use borrow.Author.Needs.{needs}
 use Rattle.building.proofs.span_of.Statement.{statement}
 use Rattle.building.proofs.span_of.Tie as tie
@@ -9,20 +11,30 @@ use Rattle.building.proofs.span_of.Tie as tie
 shared-slice-read-kind : tie.Need-shared-slice-read-kind
 shared-slice-read-kind c = search needs
 
-returns : tie.Need-returns
-returns c = span-low _ _ _ _ _ (c .before .before .before .before .pre .0 .known) _ refl (c .if1 .taken)
+is-variable-requires : tie.Need-is-variable-requires
+is-variable-requires c κs = search needs
 
-returns-2 : tie.Need-returns-2
-returns-2 c = span-high _ _ _ _ _ (c .before .before .before .before .before .pre .0 .known) _ refl (c .if2 .taken)
+returns : tie.Need-returns
+returns c = span-fixed _ _ _ _ _ (c .before .before .before .before .before .pre .0 .known) _ refl (sym (c .before .is-variable .ensures) ∙ not-true _ (c .if1 .taken))
 
 add-slot : tie.Need-add-slot
 add-slot c = search needs
 
 shared-slice-read-slot : tie.Need-shared-slice-read-slot
-shared-slice-read-slot c = var-next _ _ _ _ _ (c .before .before .before .before .before .before .pre .0 .known) _ refl (c .before .before .if1 .left) (c .before .if2 .left)
+shared-slice-read-slot c =
+    let t = c .before in
+    let k = t .before .before .before .before .before .pre .0 .known in
+    let v = (sym (t .before .is-variable .ensures) ∙ not-false _ (t .if1 .left)) in
+    var-next _ _ _ _ _ k _ refl v
 
 slot-requires : tie.Need-slot-requires
-slot-requires c κs = let s = slot _ _ _ _ _ (c .before .before .before .before .before .before .pre .0 .known) _ _ refl (c .before .before .if1 .left) (c .before .if2 .left) refl in let l = s .low in (c .before .before .if1 .left, c .before .if2 .left, omega arith)
+slot-requires c κs =
+    let t = c .before in
+    let k = t .before .before .before .before .before .pre .0 .known in
+    let v = (sym (t .before .is-variable .ensures) ∙ not-false _ (t .if1 .left)) in
+    let r = var-range (_ ∷ []) v in
+    let l = slot _ _ _ _ _ k _ _ refl v refl .low in
+    (r .0, r .1, omega arith)
 
 add-result : tie.Need-add-result
 add-result c = search needs
@@ -40,18 +52,26 @@ shared-slice-read-result-2 : tie.Need-shared-slice-read-result-2
 shared-slice-read-result-2 c = search needs
 
 sub-result : tie.Need-sub-result
-sub-result c = rw (c .before .before .slot .ensures .0) (slot _ _ _ _ _ (c .before .before .before .before .before .before .before .before .before .pre .0 .known) _ _ refl (c .before .before .before .before .before .if1 .left) (c .before .before .before .before .if2 .left) refl .up)
+sub-result c =
+    let t = c .before .before .before .before in
+    let k = t .before .before .before .before .before .pre .0 .known in
+    let v = (sym (t .before .is-variable .ensures) ∙ not-false _ (t .if1 .left)) in
+    rw (c .before .before .slot .ensures .0) (slot _ _ _ _ _ k _ _ refl v refl .up)
 
-returns-3 : tie.Need-returns-3
-returns-3 c = rw (c .before .before .slot .ensures .0) (span-var _ _ _ _ _ (c .before .before .before .before .before .before .before .before .before .pre .0 .known) _ _ refl (c .before .before .before .before .before .if1 .left) (c .before .before .before .before .if2 .left) refl)
+returns-2 : tie.Need-returns-2
+returns-2 c =
+    let t = c .before .before .before .before in
+    let k = t .before .before .before .before .before .pre .0 .known in
+    let v = (sym (t .before .is-variable .ensures) ∙ not-false _ (t .if1 .left)) in
+    rw (c .before .before .slot .ensures .0) (span-var _ _ _ _ _ k _ _ refl v refl)
 
 pub span-of-spec : {M : Type 1} → statement M
 span-of-spec =
     tie.close
     (tie.spec
     shared-slice-read-kind
+    is-variable-requires
     returns
-    returns-2
     add-slot
     shared-slice-read-slot
     slot-requires
@@ -61,4 +81,4 @@ span-of-spec =
     mul-result-2
     shared-slice-read-result-2
     sub-result
-    returns-3)
+    returns-2)

@@ -17,7 +17,9 @@ returns : tie.Need-returns Inv-loop μ-loop
 returns c = lengths-differ _ _ (c .if1 .taken)
 
 shared-characters-requires : tie.Need-shared-characters-requires Inv-loop μ-loop
-shared-characters-requires c κs = compare-start (c .before .before .before .args .a .now) (c .before .before .before .args .b .now) (c .if1 .left) (c .before .before .before .pre)
+shared-characters-requires c κs =
+    let s = c .before .before .before in
+    compare-start (s .args .a .now) (s .args .b .now) (c .if1 .left) (s .pre)
 
 loop-holds : tie.Need-loop-holds Inv-loop μ-loop
 loop-holds c = c .shared-characters .ensures .0

@@ -17,10 +17,16 @@ number-of-requires-2 : tie.Need-number-of-requires-2
 number-of-requires-2 c κs = search needs
 
 returns : tie.Need-returns
-returns c = same-number (c .before .before .before .before .before .args .x) (c .before .before .before .before .before .args .y) _ _ (c .before .before .before .before .before .pre .0) (c .before .before .before .before .before .pre .1) (sym (c .before .before .before .before .kind-of .ensures) ∙ c .before .before .if1 .taken ∙ c .before .before .before .kind-of2 .ensures) (c .before .number-of .ensures) (c .number-of2 .ensures)
+returns c =
+    let k = c .before .before .before .before in
+    let s = k .before in
+    let e = sym (k .kind-of .ensures) ∙ c .before .before .if1 .taken ∙ c .before .before .before .kind-of2 .ensures in
+    same-number (s .args .x) (s .args .y) _ _ (s .pre .0) (s .pre .1) e (c .before .number-of .ensures) (c .number-of2 .ensures)
 
 returns-2 : tie.Need-returns-2
-returns-2 c = other-kind (c .before .before .before .args .x) (c .before .before .before .args .y) (λ q. c .if1 .left (c .before .before .kind-of .ensures ∙ q ∙ sym (c .before .kind-of2 .ensures)))
+returns-2 c =
+    let s = c .before .before .before in
+    other-kind (s .args .x) (s .args .y) (λ q. c .if1 .left (c .before .before .kind-of .ensures ∙ q ∙ sym (c .before .kind-of2 .ensures)))
 
 pub same-spec : {M : Type 1} → statement M
 same-spec =

@@ -32,25 +32,38 @@ add-if3 : tie.Need-add-if3 Inv-loop μ-loop
 add-if3 c = search needs
 
 shared-slice-read-if3 : tie.Need-shared-slice-read-if3 Inv-loop μ-loop
-shared-slice-read-if3 c = omega (arith, character-inside _ _ _ (c .before .before .before .before .before .before .loop .inv .0) (c .before .before .before .before .before .loop-test .taken) (c .before .before .before .if1 .left))
+shared-slice-read-if3 c =
+    let f = c .before .before .before in
+    let l = f .before .before in
+    omega (arith, character-inside _ _ _ (l .before .loop .inv .0) (l .loop-test .taken) (f .if1 .left))
 
 add-if3-2 : tie.Need-add-if3-2 Inv-loop μ-loop
 add-if3-2 c = search needs
 
 shared-slice-read-if3-2 : tie.Need-shared-slice-read-if3-2 Inv-loop μ-loop
-shared-slice-read-if3-2 c = omega (arith, character-inside _ _ _ (c .before .before .before .before .before .before .before .loop .inv .0) (c .before .before .before .before .before .before .loop-test .taken) (c .before .before .before .before .if1 .left), c .before .before .before .before .before .before .before .loop .inv .0 .long)
+shared-slice-read-if3-2 c =
+    let f = c .before .before .before .before in
+    let l = f .before .before in
+    omega (arith, character-inside _ _ _ (l .before .loop .inv .0) (l .loop-test .taken) (f .if1 .left), l .before .loop .inv .0 .long)
 
 returns-3 : tie.Need-returns-3 Inv-loop μ-loop
 returns-3 c = c .before .before .before .before .before .before .before .before .loop .inv
 
 add-i : tie.Need-add-i Inv-loop μ-loop
-add-i c = omega (arith, character-inside _ _ _ (c .before .before .before .before .before .before .before .before .loop .inv .0) (c .before .before .before .before .before .before .before .loop-test .taken) (c .before .before .before .before .before .if1 .left))
+add-i c =
+    let f = c .before .before .before .before .before in
+    let l = f .before .before in
+    omega (arith, character-inside _ _ _ (l .before .loop .inv .0) (l .loop-test .taken) (f .if1 .left))
 
 loop-less : tie.Need-loop-less Inv-loop μ-loop
 loop-less c = search needs
 
 loop-again : tie.Need-loop-again Inv-loop μ-loop
-loop-again c = (compare-character _ _ _ (c .before .before .before .before .before .before .before .before .loop .inv .0) (c .before .before .before .before .before .before .before .loop-test .taken) (c .before .before .before .before .before .if1 .left) (c .before .before .before .if2 .left) (c .if3 .left), omega (arith, c .before .before .before .before .before .before .before .before .loop .inv .1))
+loop-again c =
+    let f = c .before .before .before .before .before in
+    let l = f .before .before in
+    let k = compare-character _ _ _ (l .before .loop .inv .0) (l .loop-test .taken) (f .if1 .left) (c .before .before .before .if2 .left) (c .if3 .left) in
+    (k, omega (arith, l .before .loop .inv .1))
 
 returns-4 : tie.Need-returns-4 Inv-loop μ-loop
 returns-4 c = c .before .loop .inv

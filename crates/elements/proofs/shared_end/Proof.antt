@@ -8,8 +8,14 @@ use Rattle.elements.proofs.shared_end.Tie as tie
 pass-requires : tie.Need-pass-requires
 pass-requires c κs = proper-inside (c .before .before .pre .0)
 
+is-symbol-requires : tie.Need-is-symbol-requires
+is-symbol-requires c κs = search needs
+
 shared-bytes-requires : tie.Need-shared-bytes-requires
-shared-bytes-requires c κs = (c .before .before .before .before .before .before .pre .0, c .before .before .before .pass .ensures .next-is, c .before .before .before .before .before .before .pre .1)
+shared-bytes-requires c κs =
+    let p = c .before .before .before in
+    let s = p .before .before .before in
+    (s .pre .0, p .pass .ensures .next-is, s .pre .1)
 
 returns : tie.Need-returns
 returns c = c .shared-bytes .ensures
@@ -27,7 +33,10 @@ enum-known-y : tie.Need-enum-known-y
 enum-known-y c = search needs
 
 same-requires : tie.Need-same-requires
-same-requires c κs = (got-number (rw (c .before .before .before .before .before .x .given .1) at (c .before .before .before .before .before .before .before .read .ensures)), got-number (rw (c .before .y .given .1) at (c .before .before .before .read2 .ensures)))
+same-requires c κs =
+    let x = c .before .before .before .before .before in
+    let y = c .before in
+    (got-number (rw (x .x .given .1) at (x .before .before .read .ensures)), got-number (rw (y .y .given .1) at (y .before .before .read2 .ensures)))
 
 enum-told : tie.Need-enum-told
 enum-told c = search needs
@@ -48,10 +57,20 @@ enum-told-6 : tie.Need-enum-told-6
 enum-told-6 c = search needs
 
 returns-2 : tie.Need-returns-2
-returns-2 c = shared (c .before .before .before .before .before .before .before .before .before .before .before .before .before .before .before .args .a .now) (c .before .before .before .before .before .before .before .before .before .before .before .before .before .before .before .args .b .now) (c .before .before .before .before .before .before .before .before .before .before .before .before .before .before .before .args .at) (c .before .before .before .before .before .before .before .before .before .before .before .before .before .before .before .pre .0) (rw (c .before .before .before .before .before .before .before .x .given .1) at (c .before .before .before .before .before .before .before .before .before .read .ensures)) (rw (c .before .before .before .y .given .1) at (c .before .before .before .before .before .read2 .ensures)) (rw (c .if2 .taken) at (c .before .same .ensures))
+returns-2 c =
+    let y = c .before .before .before in
+    let x = y .before .before .before .before in
+    let s = x .before .before .before .before .before .before .before .before in
+    shared (s .args .a .now) (s .args .b .now) (s .args .at) (s .pre .0) (rw (x .x .given .1) at (x .before .before .read .ensures))
+    (rw (y .y .given .1) at (y .before .before .read2 .ensures)) (rw (c .if2 .taken) at (c .before .same .ensures))
 
 returns-3 : tie.Need-returns-3
-returns-3 c = different (c .before .before .before .before .before .before .before .before .before .before .before .before .before .before .before .args .a .now) (c .before .before .before .before .before .before .before .before .before .before .before .before .before .before .before .args .b .now) (c .before .before .before .before .before .before .before .before .before .before .before .before .before .before .before .args .at) (c .before .before .before .before .before .before .before .before .before .before .before .before .before .before .before .pre .0) (rw (c .before .before .before .before .before .before .before .x .given .1) at (c .before .before .before .before .before .before .before .before .before .read .ensures)) (rw (c .before .before .before .y .given .1) at (c .before .before .before .before .before .read2 .ensures)) (rw (c .if2 .left) at (c .before .same .ensures))
+returns-3 c =
+    let y = c .before .before .before in
+    let x = y .before .before .before .before in
+    let s = x .before .before .before .before .before .before .before .before in
+    different (s .args .a .now) (s .args .b .now) (s .args .at) (s .pre .0) (rw (x .x .given .1) at (x .before .before .read .ensures))
+    (rw (y .y .given .1) at (y .before .before .read2 .ensures)) (rw (c .if2 .left) at (c .before .same .ensures))
 
 returns-4 : tie.Need-returns-4
 returns-4 c =
@@ -82,6 +101,7 @@ shared-end-spec =
     tie.close
     (tie.spec
     pass-requires
+    is-symbol-requires
     shared-bytes-requires
     returns
     read-requires

@@ -1,4 +1,4 @@
-use mathlib.Core.Path.{_≡_, sym, _∙_}
+use mathlib.Core.Path.{_≡_}
 use Prim.Native.Nat.{_-_}
 use native.Mathlib.Omega.{arith}
 use lib.ListN.{length}
@@ -17,31 +17,40 @@ loop-holds : tie.Need-loop-holds Inv-loop μ-loop
 loop-holds c = seek-start _ _ (c .before .pre)
 
 past-characters-requires : tie.Need-past-characters-requires Inv-loop μ-loop
-past-characters-requires c κs = (c .before .loop .inv .fits, omega arith)
+past-characters-requires c κs = search needs
 
-pass-requires : tie.Need-pass-requires Inv-loop μ-loop
-pass-requires c κs = seek-over (c .before .before .loop .inv) (c .before .loop-test .taken) (c .past-characters .ensures) .inside
+shared-slice-read-if1 : tie.Need-shared-slice-read-if1 Inv-loop μ-loop
+shared-slice-read-if1 c =
+    let r = c .before in
+    let o = seek-over (r .before .before .loop .inv) (r .before .loop-test .taken) (r .past-characters .ensures) in
+    o .inside
 
 sub-depth : tie.Need-sub-depth Inv-loop μ-loop
 sub-depth c = search needs
 
-add-t8 : tie.Need-add-t8 Inv-loop μ-loop
-add-t8 c =
-    let r = c .before .before .before .before in
+add-t11 : tie.Need-add-t11 Inv-loop μ-loop
+add-t11 c =
+    let r = c .before .before in
     let o = seek-over (r .before .before .loop .inv) (r .before .loop-test .taken) (r .past-characters .ensures) in
     omega (arith, o .inside)
 
 loop-less : tie.Need-loop-less Inv-loop μ-loop
 loop-less c =
-    let r = c .before .before .before .before in
+    let r = c .before .before in
     let o = seek-over (r .before .before .loop .inv) (r .before .loop-test .taken) (r .past-characters .ensures) in
     omega (arith, o .on, o .inside)
 
 loop-again : tie.Need-loop-again Inv-loop μ-loop
 loop-again c =
-    let r = c .before .before .before .before in
+    let r = c .before .before in
     let o = seek-over (r .before .before .loop .inv) (r .before .loop-test .taken) (r .past-characters .ensures) in
-    seek-shut (o .seeking) (r .before .loop-test .taken) (sym (c .before .before .before .pass .ensures .kind-is) ∙ c .before .if1 .taken)
+    seek-shut (o .seeking) (r .before .loop-test .taken) (c .if1 .taken)
+
+pass-requires : tie.Need-pass-requires Inv-loop μ-loop
+pass-requires c κs =
+    let r = c .before .before in
+    let o = seek-over (r .before .before .loop .inv) (r .before .loop-test .taken) (r .past-characters .ensures) in
+    o .inside
 
 depth-after-requires : tie.Need-depth-after-requires Inv-loop μ-loop
 depth-after-requires c κs =
@@ -53,14 +62,14 @@ loop-less-2 : tie.Need-loop-less-2 Inv-loop μ-loop
 loop-less-2 c =
     let r = c .before .before .before .before .before in
     let o = seek-over (r .before .before .loop .inv) (r .before .loop-test .taken) (r .past-characters .ensures) in
-    omega (arith, o .on, o .inside, c .before .before .before .before .pass .ensures .next-is)
+    omega (arith, o .on, o .inside, c .before .before .pass .ensures .next-is)
 
 loop-again-2 : tie.Need-loop-again-2 Inv-loop μ-loop
 loop-again-2 c =
-    let p = c .before .before .before .before in
-    let r = p .before in
+    let p = c .before .before .pass .ensures in
+    let r = c .before .before .before .before .before in
     let o = seek-over (r .before .before .loop .inv) (r .before .loop-test .taken) (r .past-characters .ensures) in
-    rw (c .before .depth-after .ensures, p .pass .ensures .next-is, p .pass .ensures .kind-is) (seek-on _ _ _ _ (o .seeking) (r .before .loop-test .taken))
+    rw (c .before .depth-after .ensures, p .next-is, p .kind-is) (seek-on _ _ _ _ (o .seeking) (r .before .loop-test .taken))
 
 returns : tie.Need-returns Inv-loop μ-loop
 returns c = seek-done _ _ _ (let e : c .before .loop .depth ≡ 0 = omega arith in rw e at (c .before .loop .inv))
@@ -73,11 +82,12 @@ shut-end-spec =
     μ-loop
     loop-holds
     past-characters-requires
-    pass-requires
+    shared-slice-read-if1
     sub-depth
-    add-t8
+    add-t11
     loop-less
     loop-again
+    pass-requires
     depth-after-requires
     loop-less-2
     loop-again-2

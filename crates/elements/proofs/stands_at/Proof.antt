@@ -20,7 +20,9 @@ sub-if1 : tie.Need-sub-if1 Inv-loop μ-loop
 sub-if1 c = search needs
 
 returns : tie.Need-returns Inv-loop μ-loop
-returns c = bytes-short (c .before .args .x .now) (c .before .args .i) (c .before .args .y .now) (c .before .args .at) (c .before .args .j - c .before .args .i) (omega arith) (c .if1 .taken)
+returns c =
+    let s = c .before in
+    bytes-short (s .args .x .now) (s .args .i) (s .args .y .now) (s .args .at) (s .args .j - s .args .i) (omega arith) (c .if1 .taken)
 
 loop-holds : tie.Need-loop-holds Inv-loop μ-loop
 loop-holds c = (omega arith, refl)
@@ -38,7 +40,9 @@ shared-slice-read-if2-2 : tie.Need-shared-slice-read-if2-2 Inv-loop μ-loop
 shared-slice-read-if2-2 c = omega arith
 
 returns-2 : tie.Need-returns-2 Inv-loop μ-loop
-returns-2 c = byte-differs (c .before .before .before .before .before .before .args .x .now) (c .before .before .before .before .before .before .args .i) (c .before .before .before .before .before .before .args .y .now) (c .before .before .before .before .before .before .args .at) (c .before .before .before .before .before .before .args .j - c .before .before .before .before .before .before .args .i) (c .before .before .before .before .loop .k) (omega arith) (c .if2 .taken)
+returns-2 c =
+    let s = c .before .before .before .before .before .before in
+    byte-differs (s .args .x .now) (s .args .i) (s .args .y .now) (s .args .at) (s .args .j - s .args .i) (c .before .before .before .before .loop .k) (omega arith) (c .if2 .taken)
 
 add-k : tie.Need-add-k Inv-loop μ-loop
 add-k c = omega arith
@@ -47,10 +51,16 @@ loop-less : tie.Need-loop-less Inv-loop μ-loop
 loop-less c = omega arith
 
 loop-again : tie.Need-loop-again Inv-loop μ-loop
-loop-again c = (omega arith, byte-more (c .before .before .before .before .before .before .args .x .now) (c .before .before .before .before .before .before .args .i) (c .before .before .before .before .before .before .args .y .now) (c .before .before .before .before .before .before .args .at) (c .before .before .before .before .loop .k) (omega arith) (omega arith) (c .before .before .before .before .loop .inv .1) (c .if2 .left))
+loop-again c =
+    let l = c .before .before .before .before in
+    let s = l .before .before in
+    (omega arith, byte-more (s .args .x .now) (s .args .i) (s .args .y .now) (s .args .at) (l .loop .k) (omega arith) (omega arith) (l .loop .inv .1) (c .if2 .left))
 
 returns-3 : tie.Need-returns-3 Inv-loop μ-loop
-returns-3 c = let e : c .before .loop .k ≡ c .before .before .before .args .j - c .before .before .before .args .i = omega arith in rw e at (c .before .loop .inv .1)
+returns-3 c =
+    let s = c .before .before .before in
+    let e : c .before .loop .k ≡ s .args .j - s .args .i = omega arith in
+    rw e at (c .before .loop .inv .1)
 
 pub stands-at-spec : {M : Type 1} → statement M
 stands-at-spec =

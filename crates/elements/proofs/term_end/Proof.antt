@@ -14,16 +14,22 @@ shared-slice-read-k : tie.Need-shared-slice-read-k
 shared-slice-read-k c = search needs
 
 returns-2 : tie.Need-returns-2
-returns-2 c = no-term-here (c .before .before .before .before .args .s .now) (c .before .before .before .before .args .at) (omega arith) (c .if2 .taken)
+returns-2 c =
+    let s = c .before .before .before .before in
+    no-term-here (s .args .s .now) (s .args .at) (omega arith) (c .if2 .taken)
 
 add-shut-end : tie.Need-add-shut-end
 add-shut-end c = search needs
 
 shut-end-requires : tie.Need-shut-end-requires
-shut-end-requires c κs = shutting-here (c .before .before .before .before .before .args .s .now) (c .before .before .before .before .before .args .at) (omega arith) (c .before .before .before .before .before .pre) (c .if3 .taken)
+shut-end-requires c κs =
+    let s = c .before .before .before .before .before in
+    shutting-here (s .args .s .now) (s .args .at) (omega arith) (s .pre) (c .if3 .taken)
 
 returns-3 : tie.Need-returns-3
-returns-3 c = bracketed (c .before .before .before .before .before .before .args .s .now) (c .before .before .before .before .before .before .args .at) _ (omega arith) (c .before .before .before .before .before .before .pre) (c .before .if3 .taken) (c .shut-end .ensures)
+returns-3 c =
+    let s = c .before .before .before .before .before .before in
+    bracketed (s .args .s .now) (s .args .at) _ (omega arith) (s .pre) (c .before .if3 .taken) (c .shut-end .ensures)
 
 add-t4 : tie.Need-add-t4
 add-t4 c = search needs
@@ -32,10 +38,15 @@ body-of-requires : tie.Need-body-of-requires
 body-of-requires c κs = search needs
 
 add-t11 : tie.Need-add-t11
-add-t11 c = omega (arith, symbol-here (c .before .before .before .before .before .before .args .s .now) (c .before .before .before .before .before .before .args .at) (omega arith) (c .before .before .before .before .before .before .pre .balanced) (c .before .if3 .left) (c .before .before .if2 .left) .1 .fits, c .body-of .ensures .0)
+add-t11 c =
+    let s = c .before .before .before .before .before .before in
+    omega (arith, symbol-here (s .args .s .now) (s .args .at) (omega arith) (s .pre .balanced) (c .before .if3 .left) (c .before .before .if2 .left) .1 .fits, c .body-of .ensures .0)
 
 returns-4 : tie.Need-returns-4
-returns-4 c = (let (t, p) = symbol-here (c .before .before .before .before .before .before .args .s .now) (c .before .before .before .before .before .before .args .at) (omega arith) (c .before .before .before .before .before .before .pre .balanced) (c .before .if3 .left) (c .before .before .if2 .left) in rw (c .body-of .ensures .0) (term-at (symbol t stop) p))
+returns-4 c =
+    let s = c .before .before .before .before .before .before in
+    let (t, p) = symbol-here (s .args .s .now) (s .args .at) (omega arith) (s .pre .balanced) (c .before .if3 .left) (c .before .before .if2 .left) in
+    rw (c .body-of .ensures .0) (term-at (symbol t stop) p)
 
 pub term-end-spec : {M : Type 1} → statement M
 term-end-spec =

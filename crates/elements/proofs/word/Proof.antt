@@ -21,7 +21,10 @@ add-result : tie.Need-add-result
 add-result c = search needs
 
 returns : tie.Need-returns
-returns c = (digits-two _ _ (c .before .byte .ensures .1) (c .byte2 .ensures .1) ∙ rw (c .before .byte .ensures .0, c .byte2 .ensures .0) (sym (two-bytes (c .before .before .before .args .s .now) (c .before .before .before .args .at) (c .before .before .before .pre))), omega arith)
+returns c =
+    let s = c .before .before .before in
+    let e = sym (two-bytes (s .args .s .now) (s .args .at) (s .pre)) in
+    (digits-two _ _ (c .before .byte .ensures .1) (c .byte2 .ensures .1) ∙ rw (c .before .byte .ensures .0, c .byte2 .ensures .0) e, omega arith)
 
 pub word-spec : {M : Type 1} → statement M
 word-spec =

@@ -36,7 +36,7 @@ run-end-requires : tie.Need-run-end-requires Inv-loop μ-loop
 run-end-requires c κs = (c .before .before .before .before .before .before .before .before .before .pre .1 .fits, term-less (rw (c .before .next .given .1) at (c .before .before .before .term-end .ensures)) .1)
 
 past-characters-requires : tie.Need-past-characters-requires Inv-loop μ-loop
-past-characters-requires c κs = (term-less (rw (c .before .before .next .given .1) at (c .before .before .before .before .term-end .ensures)) .1, c .run-end .ensures .fits)
+past-characters-requires c κs = c .run-end .ensures .fits
 
 loop-less : tie.Need-loop-less Inv-loop μ-loop
 loop-less c = omega (arith, term-less (rw (c .before .before .before .next .given .1) at (c .before .before .before .before .before .term-end .ensures)), characters-on (c .past-characters .ensures))

@@ -16,7 +16,7 @@ shr-result : tie.Need-shr-result
 shr-result c = search needs
 
 returns : tie.Need-returns
-returns c = let e = body-known (c .before .args .k) (c .if1 .taken) in (e, rw e (body-le (c .before .args .k)))
+returns c = let e = body-known (c .before .args .k) (omega arith) in (e, rw e (body-le (c .before .args .k)))
 
 returns-2 : tie.Need-returns-2
 returns-2 c = (sym (body-unknown (c .before .args .k) (omega arith)), omega arith)

@@ -4,7 +4,7 @@ use native.Mathlib.Omega.{arith}
 use lib.ListN.{length}
 use borrow.Author.Needs.{needs}
 use Rattle.elements.proofs.Levels.{characters-on}
-use Rattle.scanning.proofs.Scan.{Seeking, within, here-open, here-close, seek-next, seek-on, seek-end}
+use Rattle.scanning.proofs.Scan.{Seeking, here-open, here-close, seek-next, seek-on, seek-end}
 use Rattle.scanning.proofs.next_bracket.Statement.{statement}
 use Rattle.scanning.proofs.next_bracket.Tie as tie
 
@@ -31,10 +31,7 @@ returns-2 c =
     here-close _ _ _ (p .before .before .before .loop .inv) (p .before .if1 .taken) (sym (p .pass .ensures .kind-is) ∙ c .if3 .taken)
 
 past-characters-requires : tie.Need-past-characters-requires Inv-loop μ-loop
-past-characters-requires c κs =
-    let p = c .before .before .before .before .before in
-    let w = within _ _ _ (p .before .before .before .loop .inv) (p .before .if1 .taken) in
-    (rw (p .pass .ensures .next-is) w, omega arith)
+past-characters-requires c κs = search needs
 
 loop-less : tie.Need-loop-less Inv-loop μ-loop
 loop-less c =
