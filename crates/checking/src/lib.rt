@@ -36,7 +36,7 @@ fn pass_bracket(state: State, kind: u8, stack: &mut [u8]) -> Taken
         fault: 5,
         next: state,
     };
-    if 5 < kind {
+    if kinds::CLOSE < kind {
         if state.part != taking::RIGHT {
             return refused;
         }
@@ -88,15 +88,15 @@ fn pass_side(bytes: &[u8], from: Cursor, start: State, stack: &mut [u8]) -> Reac
         };
         let kind = elements::kind_of(e);
         match kind {
-            1 | 2 | 3 => state.count += 1,
-            4 | 5 | 6 | 7 => {
+            kinds::CHARACTER | kinds::NAME | kinds::MACRODIGIT => state.count += 1,
+            kinds::OPEN | kinds::CLOSE | kinds::CALL | kinds::RETURN => {
                 let taken = pass_bracket(state, kind, stack);
                 if taken.fault != 0 {
                     return Reached { at, state };
                 }
                 state = taken.next;
             }
-            8 | 9 | 10 => {
+            kinds::S_VARIABLE | kinds::T_VARIABLE | kinds::E_VARIABLE => {
                 let taken = pass_variable(state, kind, elements::number_of(e));
                 if taken.fault != 0 {
                     return Reached { at, state };
@@ -146,7 +146,7 @@ fn enter(bytes: &[u8], at: Cursor, mut state: State) -> State
         return state;
     }
     let passed = at.pass(bytes);
-    if passed.kind == 14 {
+    if passed.kind == kinds::FUNCTION_END {
         return state;
     }
     if state.part == taking::START || state.part == taking::AFTER {
@@ -168,7 +168,7 @@ fn pass_sentences(
 {
     let mut at = from;
     let mut state = enter(bytes, from, start);
-    while taking::between(3, 4, state.part) {
+    while taking::between(taking::LEFT, taking::RIGHT, state.part) {
         let side = pass_side(bytes, at, state, stack);
         let from = side.at;
         let end = pass_end(bytes, from, side.state, moves);

@@ -135,7 +135,7 @@ fn read_symbol(s: &[u8], at: usize, k: u8) -> Reading
 {
     let left = s.len() - at;
     match k {
-        1 => {
+        kinds::CHARACTER => {
             if left <= 1 {
                 return Reading::Cut;
             }
@@ -144,7 +144,7 @@ fn read_symbol(s: &[u8], at: usize, k: u8) -> Reading
                 Cursor { at: at + 2 },
             )
         }
-        2 => {
+        kinds::NAME => {
             if left <= 2 {
                 return Reading::Cut;
             }
@@ -171,9 +171,9 @@ fn read_bracket(s: &[u8], at: usize, k: u8) -> Reading
     ensures { λ r. ⌜ ReadAt (now (s .entry)) at r ⌝ }
 {
     match k {
-        4 => Reading::Got(Element::Open, Cursor { at: at + 1 }),
-        5 => Reading::Got(Element::Close, Cursor { at: at + 1 }),
-        6 => {
+        kinds::OPEN => Reading::Got(Element::Open, Cursor { at: at + 1 }),
+        kinds::CLOSE => Reading::Got(Element::Close, Cursor { at: at + 1 }),
+        kinds::CALL => {
             if s.len() - at <= 2 {
                 return Reading::Cut;
             }
@@ -197,8 +197,8 @@ fn read_variable(s: &[u8], at: usize, k: u8) -> Reading
     let n = number_at(s, at + 1, 1);
     let next = Cursor { at: at + 2 };
     match k {
-        8 => Reading::Got(Element::SVariable(n), next),
-        9 => Reading::Got(Element::TVariable(n), next),
+        kinds::S_VARIABLE => Reading::Got(Element::SVariable(n), next),
+        kinds::T_VARIABLE => Reading::Got(Element::TVariable(n), next),
         _ => Reading::Got(Element::EVariable(n), next),
     }
 }
@@ -209,9 +209,9 @@ fn read_mark(s: &[u8], at: usize, k: u8) -> Reading
     ensures { λ r. ⌜ ReadAt (now (s .entry)) at r ⌝ }
 {
     match k {
-        11 => Reading::Got(Element::Equals, Cursor { at: at + 1 }),
-        12 => Reading::Got(Element::SentenceEnd, Cursor { at: at + 1 }),
-        13 => {
+        kinds::EQUALS => Reading::Got(Element::Equals, Cursor { at: at + 1 }),
+        kinds::SENTENCE_END => Reading::Got(Element::SentenceEnd, Cursor { at: at + 1 }),
+        kinds::HEADER => {
             if s.len() - at <= 2 {
                 return Reading::Cut;
             }
@@ -220,7 +220,7 @@ fn read_mark(s: &[u8], at: usize, k: u8) -> Reading
                 Cursor { at: at + 3 },
             )
         }
-        14 => Reading::Got(Element::FunctionEnd, Cursor { at: at + 1 }),
+        kinds::FUNCTION_END => Reading::Got(Element::FunctionEnd, Cursor { at: at + 1 }),
         _ => Reading::Got(Element::ProgramEnd, Cursor { at: at + 1 }),
     }
 }
@@ -236,10 +236,14 @@ impl Cursor {
         }
         let k = s[at];
         match k {
-            1 | 2 | 3 => read_symbol(s, at, k),
-            4 | 5 | 6 | 7 => read_bracket(s, at, k),
-            8 | 9 | 10 => read_variable(s, at, k),
-            11 | 12 | 13 | 14 | 15 => read_mark(s, at, k),
+            kinds::CHARACTER | kinds::NAME | kinds::MACRODIGIT => read_symbol(s, at, k),
+            kinds::OPEN | kinds::CLOSE | kinds::CALL | kinds::RETURN => read_bracket(s, at, k),
+            kinds::S_VARIABLE | kinds::T_VARIABLE | kinds::E_VARIABLE => read_variable(s, at, k),
+            kinds::EQUALS
+            | kinds::SENTENCE_END
+            | kinds::HEADER
+            | kinds::FUNCTION_END
+            | kinds::PROGRAM_END => read_mark(s, at, k),
             _ => Reading::Unknown,
         }
     }

@@ -74,7 +74,7 @@ pub fn between(low: u8, high: u8, n: u8) -> bool
 pub fn ends_side(kind: u8) -> bool
     ensures { λ r. ⌜ r ≡ endsSide kind ⌝ }
 {
-    kind == 11 || kind == 12
+    kind == kinds::EQUALS || kind == kinds::SENTENCE_END
 }
 
 // The latest open bracket, or 0.
@@ -91,7 +91,7 @@ pub fn is_paired(kind: u8, depth: usize, stack: &[u8]) -> bool
     ensures { λ r. ⌜ r ≡ paired kind (opened depth (now (stack .entry))) ⌝ }
 {
     match kind {
-        5 | 7 => top_of(stack, depth) == kind - 1,
+        kinds::CLOSE | kinds::RETURN => top_of(stack, depth) == kind - 1,
         _ => depth == 0 || !ends_side(kind),
     }
 }
@@ -116,7 +116,7 @@ fn has_room(part: u8, kind: u8, count: usize) -> bool
 fn is_numbered(kind: u8, number: u32) -> bool
     ensures { λ r. ⌜ r ≡ implies (span 8 10 kind) (leb number 15) ⌝ }
 {
-    if between(8, 10, kind) {
+    if between(kinds::S_VARIABLE, kinds::E_VARIABLE, kind) {
         number <= 15
     } else {
         true
@@ -127,7 +127,7 @@ fn is_numbered(kind: u8, number: u32) -> bool
 pub fn is_fresh(set: u64, kind: u8, number: u32) -> bool
     ensures { λ r. ⌜ r ≡ fresh set kind number ⌝ }
 {
-    if !between(8, 10, kind) {
+    if !between(kinds::S_VARIABLE, kinds::E_VARIABLE, kind) {
         return false;
     }
     if 15 < number {
@@ -176,11 +176,11 @@ pub fn brackets_after(stack: &mut [u8], depth: usize, kind: u8) -> usize
     ensures { λ r. ⌜ (r ≡ depthAfter kind depth) × (now (stack .exit) ≡ stackAfter kind depth (now (stack .entry))) ⌝ }
 {
     match kind {
-        4 | 6 => {
+        kinds::OPEN | kinds::CALL => {
             stack[depth] = kind;
             depth + 1
         }
-        5 | 7 => depth - 1,
+        kinds::CLOSE | kinds::RETURN => depth - 1,
         _ => depth,
     }
 }
@@ -188,7 +188,7 @@ pub fn brackets_after(stack: &mut [u8], depth: usize, kind: u8) -> usize
 fn is_side(part: u8) -> bool
     ensures { λ r. ⌜ r ≡ sided (partOf part) ⌝ }
 {
-    part == FIELD || between(3, 4, part)
+    part == FIELD || between(LEFT, RIGHT, part)
 }
 
 fn count_after(to: u8, kind: u8, count: usize) -> usize
@@ -216,7 +216,7 @@ pub fn state_after(
     state.part = to;
     state.depth = depth;
     state.count = count_after(to, kind, state.count);
-    if !between(3, 4, to) {
+    if !between(LEFT, RIGHT, to) {
         state.set = 0;
         state.number = 0;
         return state;
