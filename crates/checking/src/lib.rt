@@ -187,7 +187,7 @@ fn first_bad(program: &[u8], stack: &mut [u8]) -> Check
     requires { ⌜ 400 ≤ length (now stack) ⌝ }
     ensures { λ r. ⌜ r ≡ checkOf (badProgram (now (program .entry))) ⌝ }
 {
-    let moves = taking::NEXT;
+    let moves = taking::moves();
     let mut at = Cursor { at: 0 };
     let mut state = State {
         part: taking::OUTSIDE,

@@ -43,7 +43,7 @@ pub const AFTER: u8 = 5;
 pub const NOWHERE: u8 = 7;
 
 // What may stand where, and the part to which it leads: a row for each part, a digit for each of 32 kinds. Kinds 10 to 1F cannot stand yet.
-pub const NEXT: [u8; 224] = *b"\
+const NEXT: [u8; 224] = *b"\
     70000000777777777777777777777777\
     77777777777772767777777777777777\
     73333377333477777777777777777777\
@@ -51,6 +51,13 @@ pub const NEXT: [u8; 224] = *b"\
     74444444444757777777777777777777\
     73333377333477177777777777777777\
     77777777777777777777777777777777";
+
+// The table, laid out once for a check.
+pub fn moves() -> [u8; 224]
+    ensures { λ r. ⌜ Leads r ⌝ }
+{
+    NEXT
+}
 
 // The table is lent, since a constant's array is laid out anew at each read.
 pub fn next_part(moves: &[u8; 224], part: u8, kind: u8) -> u8

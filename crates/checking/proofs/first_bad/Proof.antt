@@ -2,11 +2,9 @@ use mathlib.Core.Path.{_≡_, refl, sym, _∙_, ap}
 use Prim.Native.Nat.{_-_}
 use native.Mathlib.Omega.{arith}
 use lib.ListN.{length}
-use Rattle.meaning.specs.Goodness.{span, stands, partAfter, badProgram}
+use Rattle.meaning.specs.Goodness.{badProgram}
 use Rattle.checking.specs.Answers.{checkOf}
-use Rattle.taking.specs.Standing.{partOf, nextOf}
 use Rattle.checking.specs.Passing.{Reading}
-use Rattle.taking.proofs.Parts.{leads, fits}
 use Rattle.taking.proofs.Stepping.{told-by}
 use Rattle.checking.proofs.Reading.{begun, ready, got-on, got-number, stopped, turned, unknown-bad, cut-bad, read-over, over-good, over-early}
 use borrow.Author.Needs.{needs}
@@ -20,8 +18,13 @@ Inv-loop program stack₀ moves at₀ state₀ stack at state =
 abbrev μ-loop : tie.MeasureT-loop
 μ-loop program stack₀ moves at₀ state₀ stack at state = length program - at .at
 
+moves-requires : tie.Need-moves-requires Inv-loop μ-loop
+moves-requires c κs = search needs
+
 loop-holds : tie.Need-loop-holds Inv-loop μ-loop
-loop-holds c = (begun _ _ (c .before .before .pre), refl)
+loop-holds c =
+    let start = c .before .before .before in
+    (begun _ _ (start .pre), refl)
 
 read-requires : tie.Need-read-requires Inv-loop μ-loop
 read-requires c κs = search needs
@@ -30,10 +33,10 @@ enum-known-e : tie.Need-enum-known-e Inv-loop μ-loop
 enum-known-e c = search needs
 
 take-requires : tie.Need-take-requires Inv-loop μ-loop
-unfolding fits nextOf partOf stands span partAfter
 take-requires c κs =
+    let moves = c .before .before .before .before .before .before .before .moves in
     let loop = c .before .before .before .before .before .before .loop in
-    (leads _ tt (omega arith), ready (loop .inv .0))
+    (moves .ensures, ready (loop .inv .0))
 
 same-length : tie.Need-same-length Inv-loop μ-loop
 same-length c =
@@ -53,15 +56,15 @@ returns c =
     (take .ensures) (c .if1 .taken)))
 
 pass-sentences-requires : tie.Need-pass-sentences-requires Inv-loop μ-loop
-unfolding fits nextOf partOf stands span partAfter
 pass-sentences-requires c κs =
+    let moves = c .before .before .before .before .before .before .before .before .before .before .before .before .before .before .moves in
     let loop = c .before .before .before .before .before .before .before .before .before .before .before .before .before .loop in
     let read = c .before .before .before .before .before .before .before .before .before .before .before .before .read in
     let e = c .before .before .before .before .before .before .before .before .before .before .e in
     let take = c .before .before .before .before .before .before .take in
     let T = turned (loop .inv .0) (rw (e .given .1) at (read .ensures)) (told-by (e .given .0 .0) (got-number (rw (e .given .1) at (read .ensures))))
     (take .ensures) (c .before .before .if1 .left) (take .kept .1 .1 .1 .0) in
-    (leads _ tt (omega arith), ready T, T .program, T .inside)
+    (moves .ensures, ready T, T .program, T .inside)
 
 loop-less : tie.Need-loop-less Inv-loop μ-loop
 loop-less c =
@@ -157,6 +160,7 @@ first-bad-spec =
     (tie.spec
     Inv-loop
     μ-loop
+    moves-requires
     loop-holds
     read-requires
     enum-known-e
