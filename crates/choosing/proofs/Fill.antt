@@ -2,43 +2,29 @@
 use mathlib.Core.Path.{_≡_, refl, sym, _∙_, ap, subst}
 use mathlib.Core.Bool.{Bool, true, false}
 use mathlib.Core.Option.{none, some}
-use mathlib.Core.List.{List, [], _∷_, _++_, append-assoc, append-nil}
+use mathlib.Core.List.{List, [], _∷_, _++_}
 use Prim.Native.Nat.{ℕ, suc, _+_, _-_, _≤_, _<_}
 use native.Mathlib.Omega.{arith}
 use lib.Seq.{length-take-le, take-add, drop-at}
 use lib.ListN.{length, getD, take, drop}
 use borrow.Author.Tests.{eq-eqb, eqb-true}
 use Rattle.meaning.specs.Elements.{Element, elements, kind, body, size, isKind, isVariable}
+use Rattle.meaning.specs.Goodness.{span, stands, endsSide}
 use Rattle.meaning.specs.Matching.{plain, role, put, Env, free, seek, given}
-use Rattle.meaning.specs.Machine.{before, behind, holds, pieces, onto, apply}
-use Rattle.meaning.proofs.Truth.{never, is-true, is-false, see, or-right, or-false}
+use Rattle.meaning.specs.Machine.{before, holds, pieces, apply}
+use Rattle.meaning.proofs.Truth.{never, is-true, is-false, see, or-right}
 use Rattle.meaning.proofs.Cutting.{Whole}
 use Rattle.meaning.proofs.Searching.{given-itself}
-use Rattle.meaning.proofs.Leading.{holds-append, before-none}
-use Rattle.meaning.proofs.Programs.{before-here, behind-here, behind-on, pieces-end, pieces-on}
+use Rattle.meaning.proofs.Leading.{holds-append}
+use Rattle.meaning.proofs.Programs.{before-here, before-at, Sided, Body, body-end, body-more, side-holds, sided-known, body-split, left-of, right-of}
 use Rattle.matching.specs.Binding.{LeftSide, Matched, no-fit, first-fit}
 use Rattle.building.specs.Build.{sideOf, pour, Ready}
-use Rattle.choosing.specs.Choose.{restOf, sentences, Sentence, Body, body-end, body-more, Chosen, none-fits, one-fits}
+use Rattle.choosing.specs.Choose.{restOf, sentences, Chosen, none-fits, one-fits}
 use Rattle.scanning.proofs.Marks.{size-nil, size-cons, whole-left, whole-right}
 use Rattle.building.proofs.Sides.{side-middle, side-behind, middle-within, behind-whole}
 use Rattle.choosing.proofs.Rest.{whole-one, rest-is, kind-el, first-kind, rest-in}
+use Rattle.choosing.proofs.Good.{left-is}
 use Rattle.choosing.proofs.Values.{valued, Has, ready, poured, put-whole, calm}
-
--- CUTTING A BODY INTO SENTENCES
-pieces-first : (xs : List Element) (s : Element) (ys : List Element) → holds 12 xs ≡ false → isKind 12 s ≡ true → pieces 12 (xs ++ (s ∷ ys)) ≡ xs ∷ pieces 12 ys
-unfolding holds onto
-pieces-first [] s ys h k = pieces-end 12 s ys k
-pieces-first (x ∷ xs) s ys h k =
-    let m = or-false (isKind 12 x) (holds 12 xs) h in
-    pieces-on 12 x (xs ++ (s ∷ ys)) (m .0) ∙ rw (pieces-first xs s ys (m .1) k)
-
-pub before-at : (k : ℕ) (xs : List Element) (s : Element) (ys : List Element) → holds k xs ≡ false → isKind k s ≡ true → before k (xs ++ (s ∷ ys)) ≡ xs
-before-at k xs s ys h e = before-none k xs (s ∷ ys) h ∙ rw (before-here k s ys e) (append-nil xs)
-
-pub behind-at : (k : ℕ) (xs : List Element) (s : Element) (ys : List Element) → holds k xs ≡ false → isKind k s ≡ true → behind k (xs ++ (s ∷ ys)) ≡ ys
-unfolding holds
-behind-at k [] s ys h e = behind-here k s ys e
-behind-at k (x ∷ xs) s ys h e = let m = or-false (isKind k x) (holds k xs) h in behind-on k x (xs ++ (s ∷ ys)) (m .0) ∙ behind-at k xs s ys (m .1) e
 
 holds-at : {k : ℕ} (xs : List Element) (s : Element) (ys : List Element) → kind s ≡ k → holds k (xs ++ (s ∷ ys)) ≡ true
 unfolding holds
@@ -51,43 +37,24 @@ pub record FirstSentence (es : List Element) : Type 0 where
   pub rest : List Element
   pub q : Element
   pub s : Element
-  pub sent : Sentence l r
+  pub sides : Sided l r
   pub kq : kind q ≡ 11
   pub ks : kind s ≡ 12
   pub more : Body rest
   pub parts : es ≡ l ++ (q ∷ (r ++ (s ∷ rest)))
 
-module _ (l r rest : List Element) (q s : Element) (g : Sentence l r) (kq : kind q ≡ 11) (ks : kind s ≡ 12) where
-  no-14 : holds 14 ((l ++ (q ∷ r)) ++ (s ∷ [])) ≡ false
-  unfolding holds
-  no-14 = simp (holds-append, g .l14, g .r14, kq, ks)
-
-  no-12 : holds 12 (l ++ (q ∷ r)) ≡ false
-  unfolding holds
-  no-12 = simp (holds-append, g .l12, g .r12, kq)
-
-  split : sentences (l ++ (q ∷ (r ++ (s ∷ rest)))) ≡ (l ++ (q ∷ r)) ∷ sentences rest
-  unfolding sentences
-  split =
-      ap (λ (z : List Element). pieces 12 (before 14 z)) (sym (append-assoc (l ++ (q ∷ r)) (s ∷ []) rest ∙ append-assoc l (q ∷ r) (s ∷ rest)))
-      ∙ ap (pieces 12) (before-none 14 _ rest no-14)
-      ∙ ap (pieces 12) (append-assoc (l ++ (q ∷ r)) (s ∷ []) (before 14 rest))
-      ∙ pieces-first (l ++ (q ∷ r)) s (before 14 rest) no-12 (rw ks)
-
 module _ {es : List Element} (n : FirstSentence es) (x : List Element) where
   apply-first : apply (sentences es) x ≡ apply ((n .l ++ (n .q ∷ n .r)) ∷ sentences (n .rest)) x
-  apply-first = ap (λ (z : List (List Element)). apply z x) (ap sentences (n .parts) ∙ split (n .l) (n .r) (n .rest) (n .q) (n .s) (n .sent) (n .kq) (n .ks))
-
-  left-first : before 11 (n .l ++ (n .q ∷ n .r)) ≡ n .l
-  left-first = before-at 11 (n .l) (n .q) (n .r) (n .sent .l11) (rw (n .kq))
+  unfolding sentences
+  apply-first = ap (λ (z : List (List Element)). apply z x) (ap (λ (z : List Element). pieces 12 (before 14 z)) (n .parts) ∙ body-split (n .sides) (n .q) (n .kq) (n .s) (n .rest) (n .ks))
 
   apply-lost : seek (n .l) x free ≡ none → apply (sentences es) x ≡ apply (sentences (n .rest)) x
   unfolding apply
-  apply-lost h = apply-first ∙ rw (left-first, h, apply)
+  apply-lost h = apply-first ∙ rw (left-of (n .sides) (n .q) (n .kq), h, apply)
 
   apply-won : (env : Env) → seek (n .l) x free ≡ some env → apply (sentences es) x ≡ some (put (given env) (n .r))
   unfolding apply
-  apply-won env h = apply-first ∙ rw (left-first, h, apply) (rw (behind-at 11 (n .l) (n .q) (n .r) (n .sent .l11) (rw (n .kq))))
+  apply-won env h = apply-first ∙ rw (left-of (n .sides) (n .q) (n .kq), h, apply) (rw (right-of (n .sides) (n .q) (n .kq)))
 
 not-var : (e : Element) → isVariable e ≡ false → role e ≡ plain
 unfolding role isVariable
@@ -151,9 +118,9 @@ part-is {p} {at} {mid} c =
     ap elements (sym part) ∙ c .front
 
 nonempty : {zs : List Element} → Body zs → zs ≡ [] → ⊥
-nonempty (body-end e es k q) z = never (cc)
-nonempty (body-more {l = []} q s g kq ks b e) z = never (cc)
-nonempty (body-more {l = x ∷ l} q s g kq ks b e) z = never (cc)
+nonempty (body-end k) z = never (cc)
+nonempty (body-more {l = []} q s g kq ks b) z = never (cc)
+nonempty (body-more {l = x ∷ l} q s g kq ks b) z = never (cc)
 
 -- the sentence at a place, with the places of its = and of its end, and those behind these
 pub record SentenceAt (p : List ℕ) (at mid right stop next : ℕ) : Type 0 where
@@ -177,28 +144,30 @@ module _ {p : List ℕ} {start : ℕ} {x : List Element} {at : ℕ} (c : Choosin
     first-sentence = go (c .body) refl
       where
         go : {zs : List Element} → Body zs → zs ≡ restOf p at → FirstSentence (restOf p at)
-        go (body-end e es k q) z = absurd (n (is ∙ sym (first-kind p at place-in (c .whole) e es (sym z ∙ q)) ∙ k))
-        go (body-more {l} {r} {rest} q s g kq ks b e) z = record { l = l; r = r; rest = rest; q = q; s = s; sent = g; kq = kq; ks = ks; more = b; parts = sym z ∙ e }
+        go (body-end {e} {es} k) z = absurd (n (is ∙ sym (first-kind p at place-in (c .whole) e es (sym z)) ∙ k))
+        go (body-more {l} {r} {rest} q s g kq ks b) z = record { l = l; r = r; rest = rest; q = q; s = s; sides = g; kq = kq; ks = ks; more = b; parts = sym z }
 
     pub has-equals : holds 11 (restOf p at) ≡ true
     has-equals = let f = first-sentence in rw (f .parts) (holds-at (f .l) (f .q) _ (f .kq))
 
     pub equals-at : {mid right : ℕ} → mid ≡ at + size (before 11 (restOf p at)) → right ≡ mid + 1 + body 11
         → Cut p at mid right (first-sentence .l) (first-sentence .r ++ (first-sentence .s ∷ first-sentence .rest))
-    equals-at e r = let f = first-sentence in cut-off p at _ _ 11 (f .l) (f .q) _ (c .upto) (c .whole) (f .parts) (f .sent .l11) (f .kq) e r
+    unfolding stands span endsSide
+    equals-at e r = let f = first-sentence in cut-off p at _ _ 11 (f .l) (f .q) _ (c .upto) (c .whole) (f .parts) (side-holds 11 (f .sides .left-side) refl) (f .kq) e r
 
     pub left-side : {mid : ℕ} → mid ≡ at + size (before 11 (restOf p at)) → LeftSide 0 (elements (take (mid - at) (drop at p)))
-    left-side e = subst (LeftSide 0) (sym (part-is (equals-at e refl))) (first-sentence .sent .left)
+    left-side e = subst (LeftSide 0) (sym (part-is (equals-at e refl))) (left-is (first-sentence .sides .left-side))
 
     module _ {mid right : ℕ} (e : mid ≡ at + size (before 11 (restOf p at))) (r : right ≡ mid + 1 + body 11) where
       pub has-end : holds 12 (restOf p right) ≡ true
       has-end = let f = first-sentence in rw (equals-at e r .behind) (holds-at (f .r) (f .s) (f .rest) (f .ks))
 
       pub sentence-at : {stop next : ℕ} → stop ≡ right + size (before 12 (restOf p right)) → next ≡ stop + 1 + body 12 → SentenceAt p at mid right stop next
+      unfolding stands span endsSide
       sentence-at u v =
           let f = first-sentence in
           let l = equals-at e r in
-          record { first = f; left = l; right-side = cut-off p right _ _ 12 (f .r) (f .s) (f .rest) (l .fits) (l .behind-whole) (l .behind) (f .sent .r12) (f .ks) u v }
+          record { first = f; left = l; right-side = cut-off p right _ _ 12 (f .r) (f .s) (f .rest) (l .fits) (l .behind-whole) (l .behind) (side-holds 12 (f .sides .right-side) refl) (f .ks) u v }
 
 module _ {p f b : List ℕ} {start at : ℕ} (c : Choosing p start (elements f) at) where
   pub choose-none : {k : ℕ} → k ≡ getD p at 0 → k ≡ 14 → {u v : ℕ} → Chosen p f b (apply (sentences (restOf p start)) (elements f)) false u v
@@ -228,7 +197,7 @@ module _ {p f b : List ℕ} {start at : ℕ} (c : Choosing p start (elements f) 
         let r-whole = t .right-side .front-whole in
         let i : seek l (elements f) free ≡ some env = rw (part-is (t .left)) at s in
         let itself : (e : Element) → isVariable e ≡ false → given env e ≡ e ∷ [] = λ e y. given-itself l (elements f) env i e (not-var e y) in
-        let has : Has f b env itself r = λ v m y. valued f b env (t .first .sent .left) (rw (part-is (t .left)) at g) v (t .first .sent .vars v m y) y in
+        let has : Has f b env itself r = λ v m y. valued f b env (left-is (t .first .sides .left-side)) (rw (part-is (t .left)) at g) v (sided-known (t .first .sides) v m y) y in
         one-fits (put (given env) r) (given env)
         (c .so ∙ apply-won (t .first) (elements f) env i)
         (put-whole f b env itself r r-whole has)

@@ -13,14 +13,14 @@ use Rattle.meaning.specs.Elements.{Element, kind, isKind, body, size, same}
 use Rattle.meaning.specs.Machine.{before, holds, function}
 use Rattle.meaning.proofs.Truth.{never, is-true, is-false, see, same-eq, same-refl}
 use Rattle.meaning.proofs.Cutting.{Whole, w-none, w-more}
-use Rattle.meaning.proofs.Programs.{before-here, before-on}
+use Rattle.meaning.proofs.Programs.{before-here, before-on, Body, Bodies, bodies-none, bodies-more}
 use Rattle.elements.specs.declared.Cursor.{Cursor}
 use Rattle.elements.specs.Bytes.{digits, Told}
 use Rattle.elements.specs.Reading.{NumberedAt, PassedOver}
 use Rattle.scanning.proofs.Marks.{size-nil, size-cons}
 use Rattle.building.proofs.Sides.{kind-first, side-is, side-within, side-rest, side-end}
 use Rattle.choosing.specs.declared.Spot.the-variants.{At, Nowhere}
-use Rattle.choosing.specs.Choose.{restOf, elementAt, sentences, Body, Bodies, bodies-none, bodies-more, Program, Looked, there, nowhere}
+use Rattle.choosing.specs.Choose.{restOf, elementAt, sentences, Program, Looked, there, nowhere}
 
 pub whole-one : (e : Element) (es zs : List Element) → zs ≡ e ∷ es → Whole zs → length e ≡ suc (body (kind e))
 whole-one e es zs q w-none = never (cc)

@@ -2,15 +2,15 @@
 use mathlib.Core.Path.{_≡_}
 use mathlib.Core.Bool.{Bool, true, false}
 use mathlib.Core.Option.{Option, none, some}
-use mathlib.Core.List.{List, [], _∷_, _++_}
+use mathlib.Core.List.{List, [], _∷_}
 use Prim.Native.Nat.{ℕ, _+_, _*_, _%_, _≤_}
 use lib.ListN.{length, getD, take, drop}
-use Rattle.meaning.specs.Elements.{Element, kind, body, isVariable, join, among}
+use Rattle.meaning.specs.Elements.{Element, body, isVariable, join, among}
 use Rattle.meaning.specs.Matching.{put}
-use Rattle.meaning.specs.Machine.{holds, function, pieces, before}
+use Rattle.meaning.specs.Machine.{function, pieces, before}
 use Rattle.meaning.proofs.Cutting.{Whole}
+use Rattle.meaning.proofs.Programs.{Body, Bodies}
 use Rattle.elements.specs.declared.Cursor.{Cursor}
-use Rattle.matching.specs.Binding.{LeftSide}
 use Rattle.building.specs.Build.{sideOf, pour, Ready, Calm}
 use Rattle.choosing.specs.declared.Spot.{Spot}
 use Rattle.choosing.specs.declared.Spot.the-variants.{At, Nowhere}
@@ -27,26 +27,7 @@ elementAt p at = take (1 + body (getD p at 0)) (drop at p)
 unfoldable pub sentences : List Element → List (List Element)
 sentences es = pieces 12 (before 14 es)
 
--- a sentence of a good program: no = on the left, no end on either side, and each variable of the right side is on the left
-pub record Sentence (l r : List Element) : Type 0 where
-  pub l11 : holds 11 l ≡ false
-  pub l12 : holds 12 l ≡ false
-  pub l14 : holds 14 l ≡ false
-  pub r12 : holds 12 r ≡ false
-  pub r14 : holds 14 r ≡ false
-  pub left : LeftSide 0 l
-  pub vars : (v : Element) → among v r ≡ true → isVariable v ≡ true → among v l ≡ true
-
--- sentences, each with its = and its end, up to the end of the function
-pub data Body : List Element → Type 0 where
-  body-end : {zs : List Element} (e : Element) (es : List Element) → kind e ≡ 14 → zs ≡ e ∷ es → Body zs
-  body-more : {zs : List Element} {l r rest : List Element} (q s : Element) → Sentence l r → kind q ≡ 11 → kind s ≡ 12 → Body rest → zs ≡ l ++ (q ∷ (r ++ (s ∷ rest))) → Body zs
-
--- behind each header there is a body
-pub data Bodies : List Element → Type 0 where
-  bodies-none : Bodies []
-  bodies-more : {e : Element} {es : List Element} → (kind e ≡ 13 → Body es) → Bodies es → Bodies (e ∷ es)
-
+-- a good program: whole elements, and behind each header a body
 pub record Program (p : List ℕ) : Type 0 where
   pub whole : Whole (restOf p 0)
   pub bodies : Bodies (restOf p 0)

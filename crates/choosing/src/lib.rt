@@ -8,9 +8,10 @@ ghost use lib.ListN.{length, getD};
 ghost use Rattle.meaning.specs.Elements.{elements, size};
 ghost use Rattle.meaning.specs.Machine.{before, holds, apply};
 ghost use Rattle.meaning.proofs.Cutting.{Whole};
+ghost use Rattle.meaning.proofs.Programs.{Body};
 ghost use Rattle.elements.specs.Bytes.{digits, Told};
 ghost use Rattle.elements.specs.Reading.{Balanced};
-ghost use Rattle.choosing.specs.Choose.{restOf, sentences, Body, Program, Looked, slotFor, Indexed, Cache, Cached, Chosen};
+ghost use Rattle.choosing.specs.Choose.{restOf, sentences, Program, Looked, slotFor, Indexed, Cache, Cached, Chosen};
 
 // Where a function's body begins, if there is such a function.
 pub enum Spot {

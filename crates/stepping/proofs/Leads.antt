@@ -17,7 +17,7 @@ use Rattle.scanning.specs.State.{fieldAt, Good, stack, Opens, none-open, one-op
 use Rattle.scanning.proofs.Marks.{size-cons, whole-left, whole-right, opens-no7}
 use Rattle.scanning.proofs.Gap.{slid-up}
 use Rattle.choosing.proofs.Rest.{whole-one}
-use Rattle.choosing.proofs.Fill.{before-at, behind-at}
+use Rattle.meaning.proofs.Programs.{before-at, behind-at}
 use Rattle.stepping.specs.Stepping.{Under}
 use Rattle.stepping.proofs.Count.{stack-long}
 

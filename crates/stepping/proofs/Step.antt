@@ -12,14 +12,14 @@ use Rattle.meaning.specs.Matching.{put}
 use Rattle.meaning.specs.Machine.{apply, function, step, onward}
 use Rattle.meaning.proofs.Truth.{never}
 use Rattle.meaning.proofs.Cutting.{Whole}
-use Rattle.meaning.proofs.Programs.{Functions}
+use Rattle.meaning.proofs.Programs.{Functions, Body}
 use Rattle.meaning.proofs.Leading.{size-append}
 use Rattle.meaning.proofs.Steps.{step-good}
 use Rattle.elements.specs.declared.Cursor.{Cursor}
 use Rattle.scanning.specs.State.{fieldAt, Good, marksOf}
 use Rattle.building.specs.Build.{sideOf, pour, Ready, Calm, spans, callsOf, placed, Given, Measured}
 use Rattle.building.proofs.Spans.{pour-long}
-use Rattle.choosing.specs.Choose.{restOf, sentences, Body, Looked, there, nowhere, Chosen, none-fits, one-fits}
+use Rattle.choosing.specs.Choose.{restOf, sentences, Looked, there, nowhere, Chosen, none-fits, one-fits}
 use Rattle.choosing.specs.declared.Spot.{Spot}
 use Rattle.choosing.specs.declared.Spot.the-variants.{At, Nowhere}
 use Rattle.stepping.specs.Stepping.{argumentOf, Term, Under, Stepped, stays, goes}
