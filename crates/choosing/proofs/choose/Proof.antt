@@ -4,7 +4,7 @@ use Prim.Native.Nat.{_-_}
 use native.Mathlib.Omega.{arith}
 use lib.ListN.{length}
 use Rattle.meaning.specs.Elements.{elements}
-use Rattle.choosing.proofs.Fill.{Choosing, place-in, has-equals, equals-at, has-end, sentence-at, left-side, choose-none, choose-next, choose-this}
+use Rattle.choosing.proofs.Sentences.{Choosing, place-in, has-equals, equals-at, has-end, sentence-at, left-side, choose-none, choose-next, choose-this}
 use Rattle.choosing.proofs.choose.Statement.{statement}
 use Rattle.choosing.proofs.choose.Tie as tie
 

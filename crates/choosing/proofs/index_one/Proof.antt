@@ -1,7 +1,7 @@
 use Rattle.meaning.specs.Elements.{body}
 use native.Mathlib.Omega.{arith}
 use Rattle.choosing.proofs.Rest.{header-fits}
-use Rattle.choosing.proofs.Cached.{index-other, header-kept, header-new}
+use Rattle.choosing.proofs.Table.{index-other, header-kept, header-new}
 use borrow.Author.Needs.{needs}
 use Rattle.choosing.proofs.index_one.Statement.{statement}
 use Rattle.choosing.proofs.index_one.Tie as tie

@@ -4,7 +4,7 @@ use native.Mathlib.Omega.{arith}
 use lib.ListN.{length, length-set}
 use borrow.Author.Needs.{needs}
 use Rattle.choosing.specs.Choose.{Indexed}
-use Rattle.choosing.proofs.Cached.{kept-at, cache-at}
+use Rattle.choosing.proofs.Table.{kept-at, cache-at}
 use Rattle.choosing.proofs.index_to.Statement.{statement}
 use Rattle.choosing.proofs.index_to.Tie as tie
 

@@ -1,7 +1,7 @@
 use mathlib.Core.Path.{refl}
 use native.Mathlib.Omega.{arith}
 use Rattle.meaning.specs.Elements.{body}
-use Rattle.choosing.proofs.Cached.{table-none, table-in, table-some}
+use Rattle.choosing.proofs.Table.{table-none, table-in, table-some}
 use borrow.Author.Needs.{needs}
 use Rattle.choosing.proofs.look_up.Statement.{statement}
 use Rattle.choosing.proofs.look_up.Tie as tie
