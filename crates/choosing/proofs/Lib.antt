@@ -1,5 +1,5 @@
 pub mod Rest
-pub mod Fill
-pub mod Cached
+pub mod Sentences
+pub mod Table
 pub mod Values
 pub mod Good

@@ -13,7 +13,7 @@ use Rattle.meaning.specs.Elements.{Element, kind, elements, join, size, same, a
 use Rattle.meaning.specs.Matching.{Terms, stop, symbol, bracket, Role, sVar, tVar, eVar, plain, role, Stands, put, Env, given}
 use Rattle.meaning.specs.Machine.{holds}
 use Rattle.meaning.proofs.Truth.{never, and-left, and-right, T-true, is-true, is-false, see, or-right, same-eq, same-refl}
-use Rattle.meaning.proofs.Cutting.{Whole, w-none, w-more, join-cut, join-append}
+use Rattle.meaning.proofs.Cutting.{Whole, w-none, w-more, whole-append, join-cut, join-append}
 use Rattle.meaning.proofs.Holding.{holds-append}
 use Rattle.settling.specs.Values.{LeftSide, l-end, l-symbol, l-open, l-close, l-variable, Variable}
 use Rattle.matching.specs.Binding.{Bound}
@@ -90,10 +90,6 @@ piece-plain f b e h = rw h
 join-one : (e : Element) → join (e ∷ []) ≡ e
 unfolding join
 join-one e = append-nil e
-
-whole-append : {xs ys : List Element} → Whole xs → Whole ys → Whole (xs ++ ys)
-whole-append w-none w = w
-whole-append (w-more h v) w = w-more h (whole-append v w)
 
 module _ (f b : List ℕ) (env : Env) (itself : (e : Element) → isVariable e ≡ false → given env e ≡ e ∷ []) where
   abbrev pub Has : List Element → Type 0

@@ -2,14 +2,15 @@
 use mathlib.Core.Path.{_≡_}
 use mathlib.Core.Bool.{Bool, true, false}
 use mathlib.Core.Option.{Option, none, some}
-use mathlib.Core.List.{List, [], _∷_, _++_}
-use Prim.Native.Nat.{ℕ, _+_, _-_, _*_, _%_, _≤_, _<_}
-use lib.ListN.{length, getD}
-use Rattle.meaning.specs.Elements.{Element, kind, isVariable, join, among}
+use mathlib.Core.List.{List, [], _∷_}
+use Prim.Native.Nat.{ℕ, _+_, _*_, _%_, _≤_}
+use lib.ListN.{length, getD, take, drop}
+use Rattle.meaning.specs.Elements.{Element, body, isVariable, join, among}
 use Rattle.meaning.specs.Matching.{put}
-use Rattle.meaning.specs.Machine.{holds, function, pieces, before}
+use Rattle.meaning.specs.Machine.{function, pieces, before}
 use Rattle.meaning.proofs.Cutting.{Whole}
-use Rattle.settling.specs.Values.{LeftSide}
+use Rattle.meaning.proofs.Programs.{Body, Bodies}
+use Rattle.elements.specs.declared.Cursor.{Cursor}
 use Rattle.building.specs.Build.{sideOf, pour, Ready, Calm}
 use Rattle.choosing.specs.declared.Spot.{Spot}
 use Rattle.choosing.specs.declared.Spot.the-variants.{At, Nowhere}
@@ -18,37 +19,22 @@ use Rattle.choosing.specs.declared.Spot.the-variants.{At, Nowhere}
 unfoldable pub restOf : List ℕ → ℕ → List Element
 restOf p at = sideOf p at (length p)
 
+-- the element that begins at a place
+abbrev pub elementAt : List ℕ → ℕ → Element
+elementAt p at = take (1 + body (getD p at 0)) (drop at p)
+
 -- the sentences behind a header
 unfoldable pub sentences : List Element → List (List Element)
 sentences es = pieces 12 (before 14 es)
 
--- a sentence of a good program: no = on the left, no end on either side, and each variable of the right side is on the left
-pub record Sentence (l r : List Element) : Type 0 where
-  pub l11 : holds 11 l ≡ false
-  pub l12 : holds 12 l ≡ false
-  pub l14 : holds 14 l ≡ false
-  pub r12 : holds 12 r ≡ false
-  pub r14 : holds 14 r ≡ false
-  pub left : LeftSide 0 l
-  pub vars : (v : Element) → among v r ≡ true → isVariable v ≡ true → among v l ≡ true
-
--- sentences, each with its = and its end, up to the end of the function
-pub data Body : List Element → Type 0 where
-  body-end : {zs : List Element} (e : Element) (es : List Element) → kind e ≡ 14 → zs ≡ e ∷ es → Body zs
-  body-more : {zs : List Element} {l r rest : List Element} (q s : Element) → Sentence l r → kind q ≡ 11 → kind s ≡ 12 → Body rest → zs ≡ l ++ (q ∷ (r ++ (s ∷ rest))) → Body zs
-
--- behind each header there is a body
-pub data Bodies : List Element → Type 0 where
-  bodies-none : Bodies []
-  bodies-more : {e : Element} {es : List Element} → (kind e ≡ 13 → Body es) → Bodies es → Bodies (e ∷ es)
-
+-- a good program: whole elements, and behind each header a body
 pub record Program (p : List ℕ) : Type 0 where
   pub whole : Whole (restOf p 0)
   pub bodies : Bodies (restOf p 0)
 
 -- the body of the first function with that name is found
 pub data Looked (p name : List ℕ) : Spot → Type 0 where
-  there : {i : ℕ} → function name (restOf p 0) ≡ some (sentences (restOf p i)) → i ≤ length p → Whole (restOf p i) → Body (restOf p i) → Looked p name (At i)
+  there : {c : Cursor} → function name (restOf p 0) ≡ some (sentences (restOf p (c .at))) → c .at ≤ length p → Whole (restOf p (c .at)) → Body (restOf p (c .at)) → Looked p name (At c)
   nowhere : function name (restOf p 0) ≡ none → Looked p name Nowhere
 
 -- the right side of the first sentence that fits, from a up to e; val is what each of its elements stands for
@@ -59,14 +45,14 @@ pub data Chosen (p f b : List ℕ) (o : Option (List Element)) : Bool → ℕ �
       → ((v : Element) → among v (sideOf p a e) ≡ true → isVariable v ≡ true → Calm f b v (val v)) → ((v : Element) → isVariable v ≡ false → val v ≡ v ∷ [])
       → Chosen p f b o true a e
 
--- the place of a name in the table
-abbrev pub slotFor : ℕ → ℕ → ℕ
-slotFor lo hi = (lo + hi * 256) % 8192
+-- the place of a name's number in the table
+abbrev pub slotFor : ℕ → ℕ
+slotFor name = name % 8192
 
--- what an entry of the table says of a name, the program being read up to i: no header came to this place so far; or the first that did has its body there
+-- what an entry of the table says of a name, the program being read up to i: no header came to this place so far; or the first that did stands at h, and h + 1 is kept
 pub data Entry (p : List ℕ) (i lo hi : ℕ) : ℕ → Type 0 where
   empty : {s : ℕ} → s ≡ 0 → function (lo ∷ hi ∷ []) (restOf p 0) ≡ function (lo ∷ hi ∷ []) (restOf p i) → Entry p i lo hi s
-  taken : {s : ℕ} → 3 ≤ s → s < length p → (getD p (s - 2) 0 ≡ lo → getD p (s - 1) 0 ≡ hi → Looked p (lo ∷ hi ∷ []) (At s)) → Entry p i lo hi s
+  taken : {s : ℕ} (h : ℕ) → s ≡ h + 1 → h + 3 ≤ length p → (take 2 (drop (h + 1) p) ≡ lo ∷ hi ∷ [] → Looked p (lo ∷ hi ∷ []) (At (record { at = h + 3 }))) → Entry p i lo hi s
 
 -- the table, the program being read up to i
 pub record Indexed (p : List ℕ) (i : ℕ) (spots : List ℕ) : Type 0 where
@@ -74,7 +60,7 @@ pub record Indexed (p : List ℕ) (i : ℕ) (spots : List ℕ) : Type 0 where
   pub whole : Whole (restOf p i)
   pub bodies : Bodies (restOf p i)
   pub long : length spots ≡ 8192
-  pub each : (lo hi : ℕ) → Entry p i lo hi (getD spots (slotFor lo hi) 0)
+  pub each : (lo hi : ℕ) → Entry p i lo hi (getD spots (slotFor (lo + hi * 256)) 0)
 
 -- the table with the place up to which the program is read
 pub record Cache (p indexed spots : List ℕ) : Type 0 where

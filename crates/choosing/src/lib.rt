@@ -1,49 +1,56 @@
 // Finds a function in a good program, and in its body the first sentence that fits.
+use elements::Cursor;
 ghost use mathlib.Core.Path.{_≡_};
+ghost use mathlib.Core.Bool.{true};
 ghost use mathlib.Core.List.{_∷_, []};
 ghost use Prim.Native.Nat.{_+_, _≤_, _<_};
-ghost use lib.ListN.{length, take, drop, getD};
-ghost use Rattle.meaning.specs.Elements.{body, elements, same, size};
-ghost use Rattle.meaning.specs.Machine.{before, apply};
+ghost use lib.ListN.{length, getD};
+ghost use Rattle.meaning.specs.Elements.{elements, size};
+ghost use Rattle.meaning.specs.Machine.{before, holds, apply};
 ghost use Rattle.meaning.proofs.Cutting.{Whole};
+ghost use Rattle.meaning.proofs.Programs.{Body};
+ghost use Rattle.elements.specs.Bytes.{digits, Told};
 ghost use Rattle.elements.specs.Reading.{Balanced};
-ghost use Rattle.choosing.specs.Choose.{restOf, sentences, Body, Program, Looked, slotFor, Indexed, Cache, Cached, Chosen};
+ghost use Rattle.choosing.specs.Choose.{restOf, sentences, Program, Looked, slotFor, Indexed, Cache, Cached, Chosen};
 
 // Where a function's body begins, if there is such a function.
 pub enum Spot {
-    At(usize),
+    At(Cursor),
     Nowhere,
 }
 
-// The offset of the first element of kind k from `at` on, or the length.
-fn seek_kind(program: &[u8], at: usize, k: u8) -> usize
-    requires { ⌜ at ≤ length (now program) ⌝ }
-    requires { ⌜ length (now program) ≤ 65536 ⌝ }
-    requires { ⌜ Whole (restOf (now program) at) ⌝ }
-    ensures { λ r. ⌜ r ≡ at + size (before k (restOf (now (program .entry)) at)) ⌝ }
+// The kind of the element at a cursor; where it decides, nothing waits for the element to be passed.
+fn kind_at(program: &[u8], c: Cursor) -> u8
+    requires { ⌜ c .at < length (now program) ⌝ }
+    ensures { λ r. ⌜ r ≡ getD (now (program .entry)) (c .at) 0 ⌝ }
 {
-    let mut i = at;
-    while i < program.len() {
-        if program[i] == k {
-            return i;
-        }
-        i = i + 1 + kinds::body_of(program[i]);
-    }
-    i
+    let passed = c.pass(program);
+    passed.kind
 }
 
-// Whether the element at `at` is the header of the function with that name.
-fn is_header(program: &[u8], at: usize, lo: u8, hi: u8) -> bool
-    requires { ⌜ at + 1 + body (getD (now program) at 0) ≤ length (now program) ⌝ }
-    ensures { λ r. ⌜ r ≡ same (take (1 + body (getD (now (program .entry)) at 0)) (drop at (now (program .entry)))) (13 ∷ lo ∷ hi ∷ []) ⌝ }
+// On to the first element of kind k; there is one.
+fn seek_kind(program: &[u8], from: Cursor, k: u8) -> Cursor
+    requires { ⌜ Whole (restOf (now program) (from .at)) ⌝ }
+    requires { ⌜ holds k (restOf (now program) (from .at)) ≡ true ⌝ }
+    ensures { λ r. ⌜ r .at ≡ from .at + size (before k (restOf (now (program .entry)) (from .at))) ⌝ }
 {
-    if program[at] != 13 {
+    let mut c = from;
+    while kind_at(program, c) != k {
+        let passed = c.pass(program);
+        c = passed.next;
+    }
+    c
+}
+
+// Whether a name's number is that of two bytes: one by one, since a processor waits where bytes just written apart are read together.
+fn is_name(number: u32, lo: u8, hi: u8) -> bool
+    requires { ⌜ number < 65536 ⌝ }
+    ensures { λ r. ⌜ Told r (digits 2 number ≡ lo ∷ hi ∷ []) ⌝ }
+{
+    if number % 256 != lo as u32 {
         return false;
     }
-    if program[at + 1] != lo {
-        return false;
-    }
-    program[at + 2] == hi
+    number / 256 == hi as u32
 }
 
 // The body of the first function with that name.
@@ -52,13 +59,17 @@ pub fn find(program: &[u8], lo: u8, hi: u8) -> Spot
     requires { ⌜ length (now program) ≤ 65536 ⌝ }
     ensures { λ r. ⌜ Looked (now (program .entry)) (lo ∷ hi ∷ []) r ⌝ }
 {
-    let mut at: usize = 0;
-    while at < program.len() {
-        let next = at + 1 + kinds::body_of(program[at]);
-        if is_header(program, at, lo, hi) {
-            return Spot::At(next);
+    let mut c = Cursor { at: 0 };
+    while c.at < program.len() {
+        let passed = c.pass(program);
+        let next = passed.next;
+        if passed.kind == 13 {
+            let header = c.read_as(program, 13);
+            if is_name(header.number, lo, hi) {
+                return Spot::At(next);
+            }
         }
-        at = next;
+        c = next;
     }
     Spot::Nowhere
 }
@@ -71,55 +82,62 @@ pub struct Choice {
 }
 
 // The right side of the first sentence that fits, and the values of its variables.
-pub fn choose(program: &[u8], body: usize, arg: &[u8], binds: &mut [usize]) -> Choice
-    requires { ⌜ (body ≤ length (now program)) × (length (now program) ≤ 65536) ⌝ }
-    requires { ⌜ Whole (restOf (now program) body) ⌝ }
-    requires { ⌜ Body (restOf (now program) body) ⌝ }
+pub fn choose(program: &[u8], body: Cursor, arg: &[u8], binds: &mut [usize]) -> Choice
+    requires { ⌜ (body .at ≤ length (now program)) × (length (now program) ≤ 65536) ⌝ }
+    requires { ⌜ Whole (restOf (now program) (body .at)) ⌝ }
+    requires { ⌜ Body (restOf (now program) (body .at)) ⌝ }
     requires { ⌜ Balanced 0 (elements (now arg)) ⌝ }
     requires { ⌜ length (now binds) ≡ 96 ⌝ }
-    ensures { λ r. ⌜ Chosen (now (program .entry)) (now (arg .entry)) (now (binds .exit)) (apply (sentences (restOf (now (program .entry)) body)) (elements (now (arg .entry)))) (r .found) (r .from) (r .to) ⌝ }
+    ensures { λ r. ⌜ Chosen (now (program .entry)) (now (arg .entry)) (now (binds .exit)) (apply (sentences (restOf (now (program .entry)) (body .at))) (elements (now (arg .entry)))) (r .found) (r .from) (r .to) ⌝ }
 {
-    let mut at = body;
+    let mut c = body;
     loop {
-        if program[at] == 14 {
+        if kind_at(program, c) == 14 {
             return Choice {
                 found: false,
                 from: 0,
                 to: 0,
             };
         }
-        let mid = seek_kind(program, at, 11);
-        let stop = seek_kind(program, mid + 1, 12);
+        let equals = seek_kind(program, c, 11);
+        let right = equals.read_as(program, 11);
+        let end = seek_kind(program, right.next, 12);
+        let next = end.read_as(program, 12);
+        let at = c.at;
+        let mid = equals.at;
         if matching::match_left(&program[at..mid], arg, binds) {
+            let from = right.next;
             return Choice {
                 found: true,
-                from: mid + 1,
-                to: stop,
+                from: from.at,
+                to: end.at,
             };
         }
-        at = stop + 1;
+        c = next.next;
     }
 }
 
-// Where the table has a function: by its name, so that only names 8,192 apart share a place.
-fn slot_of(lo: u8, hi: u8) -> usize
-    ensures { λ r. ⌜ (r ≡ slotFor lo hi) × (r < 8192) ⌝ }
+// Where the table has a function: by its name's number, so that only names 8,192 apart share a place.
+fn slot_of(name: usize) -> usize
+    ensures { λ r. ⌜ (r ≡ slotFor name) × (r < 8192) ⌝ }
 {
-    (lo as usize + hi as usize * 256) % 8192
+    name % 8192
 }
 
-// Reads the element at `at` into the table, where a header keeps the place that it came first to; answers where the next element is.
-fn index_one(program: &[u8], at: usize, spots: &mut [u16]) -> usize
-    requires { ⌜ Indexed (now program) at (now spots) × (at < length (now program)) × (length (now program) ≤ 65536) ⌝ }
-    ensures { λ r. ⌜ Indexed (now (program .entry)) r (now (spots .exit)) × (at < r) ⌝ }
+// Reads the element at a cursor into the table, where a header keeps the place that it came first to; hands the moved cursor back.
+fn index_one(program: &[u8], c: Cursor, spots: &mut [u16]) -> Cursor
+    requires { ⌜ Indexed (now program) (c .at) (now spots) × (c .at < length (now program)) × (length (now program) ≤ 65536) ⌝ }
+    ensures { λ r. ⌜ Indexed (now (program .entry)) (r .at) (now (spots .exit)) × (c .at < r .at) ⌝ }
 {
-    let next = at + 1 + kinds::body_of(program[at]);
-    if program[at] != 13 {
+    let passed = c.pass(program);
+    let next = passed.next;
+    if passed.kind != 13 {
         return next;
     }
-    let slot = slot_of(program[at + 1], program[at + 2]);
+    let header = c.read_as(program, 13);
+    let slot = slot_of(header.number as usize);
     if spots[slot] == 0 {
-        spots[slot] = next as u16;
+        spots[slot] = (c.at + 1) as u16;
     }
     next
 }
@@ -129,15 +147,15 @@ fn index_to(program: &[u8], slot: usize, indexed: &mut [usize], spots: &mut [u16
     requires { ⌜ Cache (now program) (now indexed) (now spots) × (slot < 8192) × (length (now program) ≤ 65536) ⌝ }
     ensures { λ _. ⌜ Cache (now (program .entry)) (now (indexed .exit)) (now (spots .exit)) × (getD (now (spots .exit)) slot 0 ≡ 0 → getD (now (indexed .exit)) 0 0 ≡ length (now (program .entry))) ⌝ }
 {
-    let mut at = indexed[0];
-    while at < program.len() {
+    let mut c = Cursor { at: indexed[0] };
+    while c.at < program.len() {
         if spots[slot] != 0 {
-            indexed[0] = at;
+            indexed[0] = c.at;
             return;
         }
-        at = index_one(program, at, spots);
+        c = index_one(program, c, spots);
     }
-    indexed[0] = at;
+    indexed[0] = c.at;
 }
 
 // The body of the first function with that name, through a table that is filled as far as it is needed.
@@ -147,16 +165,17 @@ pub fn look_up(program: &[u8], lo: u8, hi: u8, indexed: &mut [usize], spots: &mu
     requires { ⌜ Cache (now program) (now indexed) (now spots) ⌝ }
     ensures { λ r. ⌜ Cached (now (program .entry)) lo hi r (now (indexed .exit)) (now (spots .exit)) ⌝ }
 {
-    let slot = slot_of(lo, hi);
+    let slot = slot_of(lo as usize + hi as usize * 256);
     index_to(program, slot, indexed, spots);
-    let body = spots[slot] as usize;
-    if body == 0 {
+    let place = spots[slot] as usize;
+    if place == 0 {
         return Spot::Nowhere;
     }
-    if program[body - 2] == lo {
-        if program[body - 1] == hi {
-            return Spot::At(body);
-        }
+    let c = Cursor { at: place - 1 };
+    let header = c.read_as(program, 13);
+    let body = header.next;
+    if is_name(header.number, lo, hi) {
+        return Spot::At(body);
     }
     // another name came first
     find(program, lo, hi)

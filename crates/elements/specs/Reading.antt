@@ -14,7 +14,7 @@ use Rattle.elements.specs.declared.Reading.{Reading}
 use Rattle.elements.specs.declared.Reading.the-variants.{Got, Unknown, Cut, End}
 use Rattle.elements.specs.declared.Found.{Found}
 use Rattle.elements.specs.declared.Found.the-variants.{At, Nothing}
-use Rattle.elements.specs.Bytes.{kindOf, numberOf, bytesOf}
+use Rattle.elements.specs.Bytes.{kindOf, numberOf, digits, bytesOf}
 
 -- from `at` to `next` stand the elements v
 pub record Splits (s : List ℕ) (at : ℕ) (v : List (List ℕ)) (next : ℕ) : Type 0 where
@@ -40,6 +40,12 @@ pub data ReadAt (s : List ℕ) (at : ℕ) : Reading → Type 0 where
   unknown : at < length s → span 1 15 (getD s at 0) ≡ false → ReadAt s at Unknown
   short : at < length s → span 1 15 (getD s at 0) ≡ true → length s - at ≤ body (getD s at 0) → ReadAt s at Cut
   got : {x : Element} {c : Cursor} → numberOf x < 256 ^ body (kindOf x) → at < c .at → Splits s at (bytesOf x ∷ []) (c .at) → ReadAt s at (Got x c)
+
+-- an element of kind k read: the number in its body, and the place behind it
+pub record NumberedAt (s : List ℕ) (at k n next : ℕ) : Type 0 where
+  pub small : n < 256 ^ body k
+  pub bytes : digits (body k) n ≡ take (body k) (drop (at + 1) s)
+  pub next-is : next ≡ at + 1 + body k
 
 -- an element passed over: its kind, and the place behind it
 pub record PassedOver (s : List ℕ) (at k next : ℕ) : Type 0 where

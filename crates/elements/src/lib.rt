@@ -4,7 +4,7 @@ ghost use Prim.Native.Nat.{_+_, _-_, _^_, _<_, _≤_};
 ghost use lib.ListN.{length, getD, take, drop};
 ghost use Rattle.meaning.specs.Elements.{body, elements};
 ghost use Rattle.elements.specs.Bytes.{kindOf, numberOf, digits, bytesOf, Told};
-ghost use Rattle.elements.specs.Reading.{Begun, ReadAt, Proper, PassedOver, Level, depthAfter, Characters, Shutting, Shut, SymbolEnd, TermEnd, ProperAt, Shared, Comparing};
+ghost use Rattle.elements.specs.Reading.{Begun, ReadAt, Proper, NumberedAt, PassedOver, Level, depthAfter, Characters, Shutting, Shut, SymbolEnd, TermEnd, ProperAt, Shared, Comparing};
 
 // An element: fifteen kinds, with the number in the body where there is one.
 pub enum Element {
@@ -33,6 +33,12 @@ pub struct Cursor {
 // An element passed over: its kind, and the moved cursor.
 pub struct Passed {
     pub kind: u8,
+    pub next: Cursor,
+}
+
+// An element of a known kind: the number in its body, and the moved cursor.
+pub struct Numbered {
+    pub number: u32,
     pub next: Cursor,
 }
 
@@ -245,6 +251,19 @@ impl Cursor {
             | kinds::FUNCTION_END
             | kinds::PROGRAM_END => read_mark(s, at, k),
             _ => Reading::Unknown,
+        }
+    }
+
+    // Reads an element whose kind is known, and hands the moved cursor back: no kind is read, and no element made.
+    pub fn read_as(self, s: &[u8], kind: u8) -> Numbered
+        requires { ⌜ self .at + 1 + body kind ≤ length (now s) ⌝ }
+        ensures { λ r. ⌜ NumberedAt (now (s .entry)) (self .at) kind (r .number) (r .next .at) ⌝ }
+    {
+        let at = self.at;
+        let width = kinds::body_of(kind);
+        Numbered {
+            number: number_at(s, at + 1, width),
+            next: Cursor { at: at + 1 + width },
         }
     }
 

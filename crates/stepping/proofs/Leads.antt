@@ -19,7 +19,7 @@ use Rattle.scanning.specs.State.{fieldAt, Good, Opens, none-open, one-open, Rea
 use Rattle.scanning.proofs.Marks.{size-cons, whole-left, whole-right, opens-no7}
 use Rattle.scanning.proofs.Gap.{slid-up}
 use Rattle.choosing.proofs.Rest.{whole-one}
-use Rattle.choosing.proofs.Fill.{before-at, behind-at}
+use Rattle.meaning.proofs.Programs.{before-at, behind-at}
 use Rattle.stepping.specs.Stepping.{Under}
 
 holds-mid : (k : ℕ) (xs : List Element) (g : Element) (more : List Element) → isKind k g ≡ true → holds k (xs ++ (g ∷ more)) ≡ true

@@ -12,12 +12,13 @@ use Rattle.meaning.specs.Matching.{put}
 use Rattle.meaning.specs.Machine.{apply, function, step, onward}
 use Rattle.meaning.proofs.Truth.{never}
 use Rattle.meaning.proofs.Cutting.{Whole, size-append}
-use Rattle.meaning.proofs.Programs.{Functions}
+use Rattle.meaning.proofs.Programs.{Functions, Body}
 use Rattle.meaning.proofs.Steps.{step-good}
+use Rattle.elements.specs.declared.Cursor.{Cursor}
 use Rattle.scanning.specs.State.{fieldAt, Good, marksOf}
 use Rattle.building.specs.Build.{sideOf, pour, Ready, Calm, spans, callsOf, placed, Given, Measured}
 use Rattle.building.proofs.Spans.{pour-long}
-use Rattle.choosing.specs.Choose.{restOf, sentences, Body, Looked, there, nowhere, Chosen, none-fits, one-fits}
+use Rattle.choosing.specs.Choose.{restOf, sentences, Looked, there, nowhere, Chosen, none-fits, one-fits}
 use Rattle.choosing.specs.declared.Spot.{Spot}
 use Rattle.choosing.specs.declared.Spot.the-variants.{At, Nowhere}
 use Rattle.stepping.specs.Stepping.{argumentOf, Term, Under, Stepped, stays, goes}
@@ -25,18 +26,18 @@ use Rattle.kinds.proofs.Stacks.{stack-sets, stack-long}
 use Rattle.stepping.proofs.Count.{calls-append, opens-calls, calls-fit, marks-append, marks-long, marks-put, placed-long, noted-top}
 use Rattle.stepping.proofs.Term.{places, arg-is, no-function, no-match, no-room, new-field, new-size, new-whole, new-long, new-is}
 
-pub record Place (p name : List ℕ) (i : ℕ) : Type 0 where
-  pub is : function name (restOf p 0) ≡ some (sentences (restOf p i))
-  pub upto : i ≤ length p
-  pub whole : Whole (restOf p i)
-  pub body : Body (restOf p i)
+pub record Place (p name : List ℕ) (i : Cursor) : Type 0 where
+  pub is : function name (restOf p 0) ≡ some (sentences (restOf p (i .at)))
+  pub upto : i .at ≤ length p
+  pub whole : Whole (restOf p (i .at))
+  pub body : Body (restOf p (i .at))
 
-pub place : (p name : List ℕ) (i : ℕ) → Looked p name (At i) → Place p name i
+pub place : (p name : List ℕ) (i : Cursor) → Looked p name (At i) → Place p name i
 place p name i l = go l refl
   where
     go : {s : Spot} → Looked p name s → s ≡ At i → Place p name i
     go (nowhere h) e = never (cc)
-    go (there {i = j} h l w b) e =
+    go (there {c = j} h l w b) e =
         let q : j ≡ i = cc in
         subst (Place p name) q (record { is = h; upto = l; whole = w; body = b })
 
@@ -74,21 +75,21 @@ pub stays-3 : (p f : List ℕ) (from hi at : ℕ) → Good f (from + 3) hi → T
     → Stepped f from read depth (step (restOf p 0) (length f) (fieldAt f (from + 3) hi)) 3 h t f cs
 stays-3 p f from hi at g t l = stays (no-function f from hi at g t p (length f) (nowhere-is p _ l)) (λ z. never (omega arith)) refl
 
-module _ (p f : List ℕ) (from hi at body : ℕ) (g : Good f (from + 3) hi) (read depth top : ℕ) (notes : List ℕ) (u : Under f from hi at read depth top notes) (l : Looked p (getD f (from + 1) 0 ∷ getD f (from + 2) 0 ∷ []) (At body)) where
+module _ (p f : List ℕ) (from hi at : ℕ) (body : Cursor) (g : Good f (from + 3) hi) (read depth top : ℕ) (notes : List ℕ) (u : Under f from hi at read depth top notes) (l : Looked p (getD f (from + 1) 0 ∷ getD f (from + 2) 0 ∷ []) (At body)) where
   k : Place p (getD f (from + 1) 0 ∷ getD f (from + 2) 0 ∷ []) body
   k = place p _ body l
 
-  pub stays-2 : {b : List ℕ} {x : Bool} {a e : ℕ} → Chosen p (argumentOf f hi at) b (apply (sentences (restOf p body)) (elements (argumentOf f hi at))) x a e → x ≡ false → {h w : ℕ} {cs : List ℕ}
+  pub stays-2 : {b : List ℕ} {x : Bool} {a e : ℕ} → Chosen p (argumentOf f hi at) b (apply (sentences (restOf p (body .at))) (elements (argumentOf f hi at))) x a e → x ≡ false → {h w : ℕ} {cs : List ℕ}
       → Stepped f from read depth (step (restOf p 0) (length f) (fieldAt f (from + 3) hi)) 2 h w f cs
-  stays-2 c z = stays (no-match f from hi at g (u .term) p (length f) (sentences (restOf p body)) (k .is) (ap (apply (sentences (restOf p body))) (sym (arg-is f from hi at g (u .term))) ∙ none-of c z)) (λ z. never (omega arith)) refl
+  stays-2 c z = stays (no-match f from hi at g (u .term) p (length f) (sentences (restOf p (body .at))) (k .is) (ap (apply (sentences (restOf p (body .at)))) (sym (arg-is f from hi at g (u .term))) ∙ none-of c z)) (λ z. never (omega arith)) refl
 
   -- A SENTENCE FITS
-  module _ (b : List ℕ) (x : Bool) (a e : ℕ) (c : Chosen p (argumentOf f hi at) b (apply (sentences (restOf p body)) (elements (argumentOf f hi at))) x a e) (z : x ≡ true) where
-    pub sd : Side p (argumentOf f hi at) b (apply (sentences (restOf p body)) (elements (argumentOf f hi at))) a e
+  module _ (b : List ℕ) (x : Bool) (a e : ℕ) (c : Chosen p (argumentOf f hi at) b (apply (sentences (restOf p (body .at))) (elements (argumentOf f hi at))) x a e) (z : x ≡ true) where
+    pub sd : Side p (argumentOf f hi at) b (apply (sentences (restOf p (body .at))) (elements (argumentOf f hi at))) a e
     sd = side c z
 
-    ap-is : apply (sentences (restOf p body)) ((u .term) .x) ≡ some (sd .r)
-    ap-is = ap (apply (sentences (restOf p body))) (sym (arg-is f from hi at g (u .term))) ∙ sd .is
+    ap-is : apply (sentences (restOf p (body .at))) ((u .term) .x) ≡ some (sd .r)
+    ap-is = ap (apply (sentences (restOf p (body .at)))) (sym (arg-is f from hi at g (u .term))) ∙ sd .is
 
     pub in-given : length f ≤ 65536 → Given p a e b
     in-given h = record { upto = sd .up; fits = sd .upto; arg = argumentOf f hi at; short = omega (arith, length-take (at - hi) (drop hi f), length-drop hi f); ready = sd .ready }
@@ -99,7 +100,7 @@ module _ (p f : List ℕ) (from hi at body : ℕ) (g : Good f (from + 3) hi) (re
 
     pub stays-4 : {m : Bool} {n calls pivot : ℕ} → Measured p a e b (at + 1 - from) m n calls pivot → m ≡ false → {h w : ℕ} {cs : List ℕ}
         → Stepped f from read depth (step (restOf p 0) (length f) (fieldAt f (from + 3) hi)) 4 h w f cs
-    stays-4 m y = stays (no-room f from hi at g (u .term) p (length f) (sentences (restOf p body)) (k .is) (sd .r) refl ap-is (let q = m .no y in omega (arith, long-r))) (λ z. never (omega arith)) refl
+    stays-4 m y = stays (no-room f from hi at g (u .term) p (length f) (sentences (restOf p (body .at))) (k .is) (sd .r) refl ap-is (let q = m .no y in omega (arith, long-r))) (λ z. never (omega arith)) refl
 
     module _ (m : Bool) (n calls pivot : ℕ) (ms : Measured p a e b (at + 1 - from) m n calls pivot) (y : m ≡ true) where
       n-is : n ≡ size (sd .r)
@@ -109,7 +110,7 @@ module _ (p f : List ℕ) (from hi at body : ℕ) (g : Good f (from + 3) hi) (re
       fit = ms .yes y .1
 
       pub step-is : step (restOf p 0) (length f) (fieldAt f (from + 3) hi) ≡ onward ((u .term) .a ++ sd .r ++ (u .term) .b)
-      step-is = new-field f from hi at g (u .term) p (length f) (sentences (restOf p body)) (k .is) (sd .r) refl ap-is (let q = fit in omega (arith, n-is))
+      step-is = new-field f from hi at g (u .term) p (length f) (sentences (restOf p (body .at))) (k .is) (sd .r) refl ap-is (let q = fit in omega (arith, n-is))
 
       pub start-in : (n ≤ at + 1) × (at < length f) × (at + 1 - n + spans b (sideOf p a e) ≡ at + 1)
       start-in = let q = fit in let pl = places f from hi at g (u .term) in (omega arith, pl .2, omega (arith, ms .yes y .0))
@@ -132,7 +133,7 @@ module _ (p f : List ℕ) (from hi at body : ℕ) (g : Good f (from + 3) hi) (re
             let q6 : callsOf (sd .r) ≡ callsOf (sideOf p a e) =
             sym (marks-long (sd .r) 0) ∙ ap (λ (es : List Element). length (marksOf 0 es)) (sd .r-is) ∙ ap length (marks-put (argumentOf f hi at) b (sd .val) (sideOf p a e) 0 (sd .vars) (sd .lits)) ∙ placed-long (sideOf p a e) b 0 in
             let q7 : callsOf (u .known) ≡ length notes - top = sym (marks-long (u .known) (at + 1)) ∙ ap length (sym (u .marked)) ∙ length-drop top notes in
-            let ns = new-size f from hi at g (u .term) p (length f) (sentences (restOf p body)) (k .is) (sd .r) in
+            let ns = new-size f from hi at g (u .term) p (length f) (sentences (restOf p (body .at))) (k .is) (sd .r) in
             let ft = fit in
             let pl = places f from hi at g (u .term) in
             let i = u .inside in

@@ -12,7 +12,7 @@ use borrow.Author.Tests.{le-leb, lt-leb}
 use Rattle.meaning.specs.Elements.{Element, body, cut, elements, join, size}
 use Rattle.meaning.specs.Machine.{Step, stuck, onward, fitIn, replace, call, stepAt, step, apply, function}
 use Rattle.meaning.proofs.Truth.{never}
-use Rattle.meaning.proofs.Cutting.{Whole, w-none, w-more, join-append, size-append}
+use Rattle.meaning.proofs.Cutting.{Whole, whole-append, join-append, size-append}
 use Rattle.meaning.proofs.Leading.{leading-parts}
 use Rattle.meaning.proofs.Programs.{Solid, solid-split}
 use Rattle.elements.specs.Reading.{Balanced}
@@ -152,10 +152,6 @@ module _ (f : List ℕ) (from hi at : ℕ) (g : Good f (from + 3) hi) (t : Term 
           let pl = places in
           let fits : leb (size (t .a ++ r ++ t .b)) room ≡ true = le-leb (size (t .a ++ r ++ t .b)) room (omega (arith, pl .0, pl .1)) in
           step-fits r h ∙ rw (fits, fitIn)
-
-  whole-append : {xs ys : List Element} → Whole xs → Whole ys → Whole (xs ++ ys)
-  whole-append w-none w = w
-  whole-append (w-more h v) w = w-more h (whole-append v w)
 
   pub new-whole : {r : List Element} → Whole r → Whole (t .a ++ r ++ t .b)
   new-whole w = whole-append (whole-append whole-a w) whole-b

@@ -1,5 +1,6 @@
 // One step of the machine at the leading term.
 use choosing::Spot;
+use elements::Cursor;
 use scanning::Spread;
 ghost use mathlib.Core.Path.{_≡_};
 ghost use mathlib.Core.List.{_∷_, []};
@@ -42,7 +43,7 @@ pub fn gather(field: &mut [u8], s: Spread, at: usize, calls: &[u16]) -> Lead
 // The step at the term from `from` on, with the body of its function known.
 fn step_in(
     program: &[u8],
-    body: usize,
+    body: Cursor,
     field: &mut [u8],
     from: usize,
     hi: usize,

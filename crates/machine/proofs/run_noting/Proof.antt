@@ -1,6 +1,6 @@
 use native.Mathlib.Omega.{arith}
 use Rattle.machine.proofs.Loop.{closed}
-use Rattle.choosing.proofs.Cached.{empty-cache}
+use Rattle.choosing.proofs.Table.{empty-cache}
 use borrow.Author.Needs.{needs}
 use Rattle.machine.proofs.run_noting.Statement.{statement}
 use Rattle.machine.proofs.run_noting.Tie as tie
