@@ -1,3 +1,6 @@
+use mathlib.Core.Path.{sym, _∙_}
+use native.Mathlib.Omega.{arith}
+use Rattle.kinds.proofs.Bodies.{body-not-three}
 use borrow.Author.Needs.{needs}
 use Rattle.elements.proofs.Cursor.read_as.Statement.{statement}
 use Rattle.elements.proofs.Cursor.read_as.Tie as tie
@@ -9,7 +12,7 @@ add-number-at : tie.Need-add-number-at
 add-number-at c = search needs
 
 number-at-requires : tie.Need-number-at-requires
-number-at-requires c κs = search needs
+number-at-requires c κs = (omega arith, omega arith, λ e. body-not-three _ (sym (c .body-of .ensures .0) ∙ e))
 
 add-t8 : tie.Need-add-t8
 add-t8 c = search needs
