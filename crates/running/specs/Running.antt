@@ -4,34 +4,22 @@ use mathlib.Core.Bool.{true}
 use mathlib.Core.Option.{none, some}
 use mathlib.Core.List.{List, []}
 use Prim.Native.Nat.{ℕ, _-_, _≤_}
-use lib.ListN.{length}
-use Rattle.meaning.specs.Goodness.{badProgram}
+use lib.ListN.{length, take}
+use Rattle.meaning.specs.Goodness.{badProgram, badField}
 use Rattle.meaning.specs.Machine.{sizes, Result, result, run}
 use Rattle.meaning.proofs.Programs.{Functions, Solid}
 use Rattle.meaning.proofs.Balance.{brackets}
 use Rattle.scanning.specs.State.{fieldOf, fieldAt, Good, Standing}
 use Rattle.choosing.specs.Choose.{restOf, Program}
-use Rattle.machine.specs.declared.Code.{Code}
-use Rattle.machine.specs.declared.Code.the-variants.{Done, Paused, NoMatch, NoFunction, NoRoom, BadSizes, BadProgram, BadField}
 
--- the paper's number of each code
-abbrev pub codeOf : Code → ℕ
-codeOf Done = 0
-codeOf Paused = 1
-codeOf NoMatch = 2
-codeOf NoFunction = 3
-codeOf NoRoom = 4
-codeOf BadSizes = 5
-codeOf BadProgram = 6
-codeOf BadField = 7
-
--- what the checks of the sizes and of the program have found out
-pub record Sized (p f : List ℕ) (used : ℕ) (s : List ℕ) : Type 0 where
+-- what the checks have found out
+pub record Checked (p f : List ℕ) (used : ℕ) (s : List ℕ) : Type 0 where
   pub sizes-fit : sizes p f used s ≡ true
   pub program : badProgram p ≡ none
+  pub field : badField (take used f) ≡ none
 
--- what a run may rely on
-pub record Checked (p f : List ℕ) (used : ℕ) (s : List ℕ) : Type 0 where
+-- the same, as the steps need it
+pub record Ready (p f : List ℕ) (used : ℕ) (s : List ℕ) : Type 0 where
   pub program : Program p
   pub functions : Functions (restOf p 0)
   pub fits : used ≤ length f
@@ -41,8 +29,8 @@ pub record Checked (p f : List ℕ) (used : ℕ) (s : List ℕ) : Type 0 where
   pub field-short : length f ≤ 65536
   pub scratch-long : length f ≤ length s
 
--- a run that has come to its end
-pub record Ended (whole : Result) (f′ : List ℕ) (code steps place lo hi : ℕ) : Type 0 where
+-- a run that has come to a halt
+pub record Halted (whole : Result) (f′ : List ℕ) (code steps place lo hi : ℕ) : Type 0 where
   pub gap : lo ≤ hi
   pub fits : hi ≤ length f′
   pub so : whole ≡ result code steps place (fieldAt f′ lo hi)

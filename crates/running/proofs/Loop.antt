@@ -1,55 +1,61 @@
 -- The loop: from one step to the next.
 use mathlib.Core.Path.{_≡_, refl, sym, _∙_, ap, subst}
 use mathlib.Core.Bool.{Bool, true, false}
-use mathlib.Core.Option.{some}
-use mathlib.Core.List.{List, [], _∷_, _++_, append-nil}
+use mathlib.Core.List.{List, [], _∷_}
 use Prim.Native.Nat.{ℕ, suc, _+_, _-_, _≤_}
 use native.Mathlib.Omega.{arith}
 use native.Mathlib.Numerals.{add-one}
-use lib.ListN.{length, take, drop, replicate, drop-of-length-le, length-drop}
-use lib.Seq.{paste, length-paste, length-take-le, drop-length}
-use Rattle.meaning.specs.Elements.{join, size, isKind}
-use Rattle.meaning.specs.Machine.{holds, stuck, onward, step, Result, run, closing, answer}
+use lib.ListN.{length, drop, drop-of-length-le, length-drop}
+use lib.Seq.{paste, length-paste}
+use Rattle.meaning.specs.Elements.{isKind}
+use Rattle.meaning.specs.Machine.{holds, stuck, onward, step, Result, run}
 use Rattle.meaning.proofs.Truth.{or-right}
-use Rattle.meaning.proofs.Cutting.{join-cut}
 use Rattle.meaning.proofs.Leading.{holds-append}
-use Rattle.meaning.proofs.Programs.{Functions, Solid, solid-whole}
-use Rattle.meaning.proofs.Balance.{brackets}
+use Rattle.meaning.proofs.Programs.{Functions, solid-whole}
 use Rattle.meaning.proofs.Words.{StepIs}
 use Rattle.meaning.proofs.Steps.{step-good, step-is, stuck-code}
 use Rattle.meaning.proofs.Runs.{run-done, run-paused, run-stuck, run-onward}
 use Rattle.scanning.specs.State.{fieldOf, fieldAt, Good, stack, marksOf, none-open, Reached, Advanced}
 use Rattle.scanning.proofs.Marks.{size-nil}
-use Rattle.scanning.proofs.Gap.{brought-up, brought-down}
+use Rattle.scanning.proofs.Gap.{brought-up}
 use Rattle.choosing.specs.Choose.{restOf}
 use Rattle.stepping.specs.Stepping.{Stepped, stays, goes}
 use Rattle.stepping.proofs.Leads.{last}
-use Rattle.machine.specs.Running.{Ended, Between}
-use Rattle.machine.proofs.Answering.{cleared}
+use Rattle.running.specs.Running.{Ready, Halted, Between}
 
 -- THE START
+
+-- what is begun with: all of the field behind the gap, and nothing read
+abbrev Begun : List ℕ → List ℕ → ℕ → ℕ → ℕ → ℕ → ℕ → ℕ → ℕ → Type 0
+Begun f f′ used n lo hi read depth top = (lo ≡ 0) × (hi ≡ length f - used) × (read ≡ hi) × (depth ≡ 0) × (top ≡ n) × (f′ ≡ paste f hi (drop 0 f) used)
+
 begun : (f f′ : List ℕ) (used lo hi : ℕ) → used ≤ length f → lo ≡ 0 → hi ≡ length f - used → f′ ≡ paste f hi (drop 0 f) used → fieldAt f′ lo hi ≡ fieldOf f used
 begun f f′ used lo hi h e0 eh e = rw (e0, eh) (brought-up f f′ used h (rw eh at e))
 
 begun-long : (f f′ : List ℕ) (used hi : ℕ) → used ≤ length f → hi ≡ length f - used → f′ ≡ paste f hi (drop 0 f) used → length f′ ≡ length f
 begun-long f f′ used hi h eh e = ap length e ∙ length-paste f hi (drop 0 f) used (omega arith) (omega (arith, length-drop 0 f))
 
-pub same-run : (p f f′ : List ℕ) (used lo hi budget : ℕ) → used ≤ length f → lo ≡ 0 → hi ≡ length f - used → f′ ≡ paste f hi (drop 0 f) used
+pub same-run : (p f f′ : List ℕ) (used budget : ℕ) {n lo hi read depth top : ℕ} → used ≤ length f → Begun f f′ used n lo hi read depth top
     → run (restOf p 0) (length f′) budget 0 (fieldAt f′ lo hi) ≡ run (restOf p 0) (length f) budget 0 (fieldOf f used)
-same-run p f f′ used lo hi budget h e0 eh e = rw (begun f f′ used lo hi h e0 eh e, begun-long f f′ used hi h eh e)
+same-run p f f′ used budget {lo = lo} {hi} h (e0, eh, er, ed, et, e) = rw (begun f f′ used lo hi h e0 eh e, begun-long f f′ used hi h eh e)
 
 -- STEP AFTER STEP
+
+-- what a halt holds
+abbrev pub Holds : ℕ → ℕ → ℕ → ℕ → ℕ → ℕ → ℕ → ℕ → ℕ → ℕ → Type 0
+Holds code steps place lo hi c s q l h = (c ≡ code) × (s ≡ steps) × (q ≡ place) × (l ≡ lo) × (h ≡ hi)
+
 module _ (p : List ℕ) (room budget : ℕ) (whole : Result) where
-  pub between-start : (f f′ calls : List ℕ) (used : ℕ) {lo hi read depth top : ℕ} → used ≤ length f → Solid (fieldOf f used) → brackets [] (fieldOf f used) ≡ some [] → length f′ ≡ room
-      → lo ≡ 0 → hi ≡ length f - used → read ≡ hi → depth ≡ 0 → top ≡ length calls → f′ ≡ paste f hi (drop 0 f) used
+  pub between-start : (f f′ s calls : List ℕ) (used : ℕ) {lo hi read depth top : ℕ} → Ready p f used s → length f′ ≡ room → Begun f f′ used (length calls) lo hi read depth top
       → whole ≡ run (restOf p 0) room budget 0 (fieldAt f′ lo hi) → Between p room budget whole f′ calls lo hi read depth top 0
   unfolding stack holds marksOf
-  between-start f f′ calls used {lo} {hi} fit sol bal l e0 eh er ed et e so =
+  between-start f f′ s calls used {lo} {hi} r l (e0, eh, er, ed, et, e) so =
+      let fit = r .fits in
       let z : budget - 0 ≡ budget = omega arith in
       let i = begun f f′ used lo hi fit e0 eh e in
       let lf = begun-long f f′ used hi fit eh e in
       rw (er, ed, et) (record {
-        good = record { gap = omega arith; fits = omega arith; whole = rw i (solid-whole sol); solid = rw i sol; balanced = rw i bal };
+        good = record { gap = omega arith; fits = omega arith; whole = rw i (solid-whole (r .solid)); solid = rw i (r .solid); balanced = rw i (r .balanced) };
         standing = record {
           front = [];
           known = [];
@@ -73,8 +79,8 @@ module _ (p : List ℕ) (room budget : ℕ) (whole : Result) where
     so-now : whole ≡ run (restOf p 0) room (budget - steps) steps (fieldAt f1 lo1 hi1)
     so-now = rw (v .same) (i .so)
 
-    pub end-done : here ≡ false → {c s q l h : ℕ} → c ≡ 0 → s ≡ steps → q ≡ 0 → l ≡ lo1 → h ≡ hi1 → Ended whole f1 c s q l h
-    end-done z ec es eq el eh =
+    pub end-done : here ≡ false → {c s q l h : ℕ} → Holds 0 steps 0 lo1 hi1 c s q l h → Halted whole f1 c s q l h
+    end-done z (ec, es, eq, el, eh) =
         rw (ec, es, eq, el, eh) (record { gap = v .good .gap; fits = v .good .fits; so = so-now ∙ run-done (restOf p 0) room (budget - steps) steps (fieldAt f1 lo1 hi1) (v .next .no z); small = omega arith })
 
     module _ (z : here ≡ true) where
@@ -90,8 +96,8 @@ module _ (p : List ℕ) (room budget : ℕ) (whole : Result) where
           let h : holds 6 (r .front) ≡ true = ap (holds 6) (l .is) ∙ holds-append 6 (l .xs) (l .c ∷ l .ys) ∙ rw k6 (or-right (holds 6 (l .xs))) in
           ap (holds 6) (r .parts) ∙ holds-append 6 (r .front) _ ∙ rw h
 
-      pub end-paused : steps ≡ budget → {c s q l h : ℕ} → c ≡ 1 → s ≡ steps → q ≡ 0 → l ≡ lo1 → h ≡ hi1 → Ended whole f1 c s q l h
-      end-paused e ec es eq el eh =
+      pub end-paused : steps ≡ budget → {c s q l h : ℕ} → Holds 1 steps 0 lo1 hi1 c s q l h → Halted whole f1 c s q l h
+      end-paused e (ec, es, eq, el, eh) =
           let y : budget - steps ≡ 0 = omega arith in
           rw (ec, es, eq, el, eh) (record { gap = v .good .gap; fits = v .good .fits; so = so-now ∙ rw y (run-paused (restOf p 0) room steps (fieldAt f1 lo1 hi1) some-call); small = omega arith })
 
@@ -103,10 +109,10 @@ module _ (p : List ℕ) (room budget : ℕ) (whole : Result) where
             let q : budget - steps ≡ suc (budget - (steps + 1)) = (let l = i .left in omega arith) in
             rw (same2, ← q) so-now
 
-        pub stuck-from : (code ≡ 0 → ⊥) → {c s q l h : ℕ} → c ≡ code → s ≡ steps → q ≡ from → l ≡ from + 3 → h ≡ hi2 → Ended whole f3 c s q l h
-        stuck-from n ec es eq el eh = rw (ec, es, eq, el, eh) (go t refl refl)
+        pub stuck-from : (code ≡ 0 → ⊥) → {c s q l h : ℕ} → Holds code steps from (from + 3) hi2 c s q l h → Halted whole f3 c s q l h
+        stuck-from n (ec, es, eq, el, eh) = rw (ec, es, eq, el, eh) (go t refl refl)
           where
-            go : {k h u : ℕ} {g cs : List ℕ} → Stepped f2 from read1 (depth1 - 1) (step (restOf p 0) (length f2) (fieldAt f2 (from + 3) hi2)) k h u g cs → k ≡ code → g ≡ f3 → Ended whole f3 code steps from (from + 3) hi2
+            go : {k h u : ℕ} {g cs : List ℕ} → Stepped f2 from read1 (depth1 - 1) (step (restOf p 0) (length f2) (fieldAt f2 (from + 3) hi2)) k h u g cs → k ≡ code → g ≡ f3 → Halted whole f3 code steps from (from + 3) hi2
             go (goes a b l o sg) k e = absurd (n (sym k))
             go (stays o c ef) k e =
                 let q : f3 ≡ f2 = sym e ∙ ef in
@@ -134,25 +140,5 @@ module _ (p : List ℕ) (room budget : ℕ) (whole : Result) where
                   so = so-2 ∙ rw add-one (run-onward (restOf p 0) room (budget - suc steps) steps (fieldAt f2 (from + 3) hi2) (fieldAt g from h) st);
                 }
 
--- THE END
-join-field : (f : List ℕ) (used : ℕ) → join (fieldOf f used) ≡ take used f
-unfolding fieldOf
-join-field f used = join-cut (take used f)
-
-pub closed : (whole : Result) (f s f1 f2 f3 s1 s2 : List ℕ) {code named steps lo hi place : ℕ} → Ended whole f1 code steps place lo hi → length f1 ≡ length f → length s1 ≡ length s
-    → f2 ≡ paste f1 lo (drop hi f1) (length f1 - hi) → f3 ≡ take (lo + (length f1 - hi)) f2 ++ replicate (length f2 - (lo + (length f1 - hi))) 0 ++ drop (length f2) f2
-    → s2 ≡ take 0 s1 ++ replicate (length s1 - 0) 0 ++ drop (length s1) s1
-    → named ≡ code → closing f s whole ≡ answer named steps (lo + (length f1 - hi)) place f3 s2
-unfolding closing size
-closed whole f s f1 f2 f3 s1 s2 {code} {named} {steps} {lo} {hi} {place} e lf ls e2 e3 es en =
-    let g = e .gap in
-    let h = e .fits in
-    let l2 : length f2 ≡ length f1 = ap length e2 ∙ length-paste f1 lo (drop hi f1) (length f1 - hi) (omega arith) (omega (arith, length-drop hi f1)) in
-    let by : take (lo + (length f1 - hi)) f2 ≡ join (fieldAt f1 lo hi) = sym (join-field f2 (lo + (length f1 - hi))) ∙ ap join (brought-down f1 f2 lo hi g h e2) in
-    let su : length (join (fieldAt f1 lo hi)) ≡ lo + (length f1 - hi) = ap length (sym by) ∙ length-take-le (lo + (length f1 - hi)) f2 (omega arith) in
-    let qf : f3 ≡ join (fieldAt f1 lo hi) ++ replicate (length f1 - length (join (fieldAt f1 lo hi))) 0 = e3 ∙ rw (drop-length f2, l2, su, ← by) (append-nil _) in
-    let qs : s2 ≡ replicate (length s) 0 = es ∙ cleared s1 ∙ rw ls in
-    ap (closing f s) (e .so) ∙ rw (qf, qs, su, en, lf)
-
-pub ended-as : {w v : Result} {f : List ℕ} {c s q l h : ℕ} → w ≡ v → Ended w f c s q l h → Ended v f c s q l h
-ended-as {f = f} {c} {s} {q} {l} {h} e x = subst (λ (r : Result). Ended r f c s q l h) e x
+pub halted-as : {w v : Result} {f : List ℕ} {c s q l h : ℕ} → w ≡ v → Halted w f c s q l h → Halted v f c s q l h
+halted-as {f = f} {c} {s} {q} {l} {h} e x = subst (λ (r : Result). Halted r f c s q l h) e x
