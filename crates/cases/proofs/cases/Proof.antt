@@ -1,20 +1,25 @@
-use borrow.Author.Needs.{needs}
-use native.Mathlib.Omega.{arith}
 use Prim.Native.Nat.{_≤_, _-_}
-use Rattle.cases_matching.proofs.cases.Statement.{statement}
-use Rattle.cases_matching.proofs.cases.Tie as tie
+use borrow.Author.Needs.{needs}
+use Rattle.cases.proofs.cases.Statement.{statement}
+use Rattle.cases.proofs.cases.Tie as tie
 
 abbrev Inv-loop : tie.InvT-loop
-Inv-loop left₀ arg₀ binds₀ i₀ left arg binds i = i ≤ 100000
+Inv-loop sort path program₀ field₀ scratch₀ file i₀ program field scratch i = i ≤ 100000
 
 abbrev μ-loop : tie.MeasureT-loop
-μ-loop left₀ arg₀ binds₀ i₀ left arg binds i = 100000 - i
+μ-loop sort path program₀ field₀ scratch₀ file i₀ program field scratch i = 100000 - i
+
+open-read-requires : tie.Need-open-read-requires Inv-loop μ-loop
+open-read-requires c κs = search needs
 
 loop-holds : tie.Need-loop-holds Inv-loop μ-loop
-loop-holds c = omega arith
+loop-holds c = search needs
 
 case-requires : tie.Need-case-requires Inv-loop μ-loop
 case-requires c κs = search needs
+
+close-requires : tie.Need-close-requires Inv-loop μ-loop
+close-requires c κs = search needs
 
 returns : tie.Need-returns Inv-loop μ-loop
 returns c = search needs
@@ -23,10 +28,10 @@ add-i : tie.Need-add-i Inv-loop μ-loop
 add-i c = search needs
 
 loop-less : tie.Need-loop-less Inv-loop μ-loop
-loop-less c = omega arith
+loop-less c = search needs
 
 loop-again : tie.Need-loop-again Inv-loop μ-loop
-loop-again c = omega arith
+loop-again c = search needs
 
 returns-2 : tie.Need-returns-2 Inv-loop μ-loop
 returns-2 c = search needs
@@ -37,8 +42,10 @@ cases-spec =
     (tie.spec
     Inv-loop
     μ-loop
+    open-read-requires
     loop-holds
     case-requires
+    close-requires
     returns
     add-i
     loop-less
