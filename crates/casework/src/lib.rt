@@ -1,5 +1,4 @@
-// What the case programs share: numbers and bytes off standard input, and lines to standard output.
-use libc::STDIN_FILENO;
+// What the case program reads and prints: numbers and bytes off a case file, and lines to standard output.
 use libc::STDOUT_FILENO;
 ghost use Prim.Native.Nat.{_≤_, _<_};
 ghost use lib.ListN.{length};
@@ -15,38 +14,38 @@ fn wide(b: u8) -> u32
     b as u32
 }
 
-// A number of four bytes, the low byte first; Over where the input ends.
-pub fn number() -> Word {
+// A number of four bytes, the low byte first; Over where the file ends.
+pub fn number(file: i32) -> Word {
     let mut b = [0u8; 4];
-    if io::read_full(STDIN_FILENO, &mut b) < 4 {
+    if io::read_full(file, &mut b) < 4 {
         return Word::Over;
     }
     Word::Is(wide(b[0]) + wide(b[1]) * 256 + wide(b[2]) * 65536 + wide(b[3]) * 16777216)
 }
 
-// A number, or 0 where the input ends.
-pub fn number_or_zero() -> u32 {
-    match number() {
+// A number, or 0 where the file ends.
+pub fn number_or_zero(file: i32) -> u32 {
+    match number(file) {
         Word::Is(n) => n,
         Word::Over => 0,
     }
 }
 
 // A length that fits a buffer, and that many bytes of it; 0 where it does not fit.
-pub fn load(buf: &mut [u8]) -> usize
+pub fn load(file: i32, buf: &mut [u8]) -> usize
     ensures { λ r. ⌜ r ≤ length (now (buf .exit)) ⌝ }
 {
-    let n = number_or_zero() as usize;
+    let n = number_or_zero(file) as usize;
     if buf.len() < n {
         return 0;
     }
-    io::read_full(STDIN_FILENO, &mut buf[0..n]);
+    io::read_full(file, &mut buf[0..n]);
     n
 }
 
 // So many bytes as a buffer holds.
-pub fn fill(buf: &mut [u8]) {
-    io::read_full(STDIN_FILENO, buf);
+pub fn fill(file: i32, buf: &mut [u8]) {
+    io::read_full(file, buf);
 }
 
 // Sets every byte of a buffer.
@@ -69,7 +68,7 @@ pub struct Case {
 }
 
 // Reads the next case into three buffers; there is no more where the file ends, or where the program or the scratch does not fit.
-pub fn next_case(program: &mut [u8], field: &mut [u8], scratch: &mut [u8]) -> Case
+pub fn next_case(file: i32, program: &mut [u8], field: &mut [u8], scratch: &mut [u8]) -> Case
     ensures { λ r. ⌜ r .program ≤ length (now (program .exit)) ⌝ }
     ensures { λ r. ⌜ r .field ≤ length (now (field .exit)) ⌝ }
     ensures { λ r. ⌜ r .scratch ≤ length (now (scratch .exit)) ⌝ }
@@ -82,47 +81,61 @@ pub fn next_case(program: &mut [u8], field: &mut [u8], scratch: &mut [u8]) -> Ca
         scratch: 0,
         last: 0,
     };
-    let n = match number() {
+    let n = match number(file) {
         Word::Is(n) => n as usize,
         Word::Over => return c,
     };
     if program.len() < n {
         return c;
     }
-    fill(&mut program[0..n]);
+    fill(file, &mut program[0..n]);
     c.program = n;
-    c.field = load(field);
-    c.used = number_or_zero() as usize;
-    let m = number_or_zero() as usize;
+    c.field = load(file, field);
+    c.used = number_or_zero(file) as usize;
+    let m = number_or_zero(file) as usize;
     if scratch.len() < m {
         return c;
     }
     let mut byte = [0u8; 1];
-    fill(&mut byte);
+    fill(file, &mut byte);
     set_all(&mut scratch[0..m], byte[0]);
     c.scratch = m;
-    c.last = number_or_zero();
+    c.last = number_or_zero(file);
     c.more = true;
     c
+}
+
+// Puts some bytes into a buffer from a place on, as far as they fit; the place behind them.
+pub fn put(out: &mut [u8], at: usize, s: &[u8]) -> usize
+    requires { ⌜ at ≤ length (now out) ⌝ }
+    ensures { λ r. ⌜ r ≤ length (now (out .exit)) ⌝ }
+{
+    let mut to = at;
+    let mut i = 0;
+    while i < s.len() {
+        if to == out.len() {
+            return to;
+        }
+        out[to] = s[i];
+        to += 1;
+        i += 1;
+    }
+    to
 }
 
 pub fn text(s: &[u8]) {
     io::write_all(STDOUT_FILENO, s);
 }
 
-pub fn decimal(n: u64) {
+// A number, and what stands behind it.
+pub fn decimal(n: u64, after: &[u8]) {
     io::print_decimal(STDOUT_FILENO, n);
-}
-
-fn hex_digit(d: u8) -> u8
-    requires { ⌜ d < 16 ⌝ }
-{
-    if d < 10 { 48 + d } else { 55 + d }
+    io::write_all(STDOUT_FILENO, after);
 }
 
 // One byte, as two digits of upper-case hex.
 pub fn hex_byte(b: u8) {
-    let pair = [hex_digit(b / 16), hex_digit(b % 16)];
+    let pair = hexing::pair(b);
     io::write_all(STDOUT_FILENO, &pair);
 }
 

@@ -6,7 +6,7 @@ use borrow.Author.Tests.{eq-eqb, ne-eqb}
 use Rattle.meaning.specs.Machine.{machine, answer}
 use Rattle.meaning.specs.Desk.{desk, deskCall, deskCalls, noted}
 use Rattle.meaning.proofs.Calls.{desk-law}
-use Rattle.machine.specs.Running.{codeOf}
+use Rattle.machine.specs.Codes.{codeOf}
 use Rattle.machine.proofs.Only.{code-only}
 use Rattle.desk.specs.Calling.{deskOf, Called}
 use Rattle.desk.specs.declared.Record.{Record}

@@ -3,7 +3,7 @@ use mathlib.Core.Path.{_≡_}
 use mathlib.Core.List.{List}
 use Prim.Native.Nat.{ℕ}
 use Rattle.meaning.specs.Desk.{Desk, desk, deskCall}
-use Rattle.machine.specs.Running.{codeOf}
+use Rattle.machine.specs.Codes.{codeOf}
 use Rattle.desk.specs.declared.Record.{Record}
 
 -- a record with its field buffer and scratch

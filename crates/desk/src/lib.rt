@@ -3,7 +3,7 @@ use machine::Answer;
 use machine::Code;
 ghost use mathlib.Core.Path.{_≡_};
 ghost use Rattle.meaning.specs.Pointer.{partFrom, usedField, pointer as pointed};
-ghost use Rattle.machine.specs.Running.{codeOf};
+ghost use Rattle.machine.specs.Codes.{codeOf};
 ghost use Rattle.desk.specs.Calling.{Called};
 
 // The used length, the last code and the last place.

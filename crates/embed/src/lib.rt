@@ -7,7 +7,7 @@ ghost use mathlib.Core.List.{List, _∷_};
 ghost use Prim.Native.Nat.{ℕ, _≤_};
 ghost use lib.ListN.{length, drop};
 ghost use Rattle.meaning.specs.Pointer.{pointer};
-ghost use Rattle.machine.specs.Running.{codeOf};
+ghost use Rattle.machine.specs.Codes.{codeOf};
 ghost use Rattle.embed.specs.Face.{lent, runFace, deskFace, pointerFace};
 
 // The first three of some numbers.

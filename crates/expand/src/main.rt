@@ -1,6 +1,6 @@
 // Expands start.bin by rules.bin, and prints the answer and the field.
 use libc::STDOUT_FILENO;
-ghost use Prim.Native.Nat.{_+_, _*_, _≤_, _<_};
+ghost use Prim.Native.Nat.{_+_, _*_, _≤_};
 ghost use lib.ListN.{length};
 ghost use Rattle.expand.specs.Loading.{Within};
 
@@ -40,17 +40,12 @@ fn numbers(code: u8, steps: u32, used: usize, place: usize) {
     number(place as u64, b"\n");
 }
 
-fn hex_digit(d: u8) -> u8
-    requires { ⌜ d < 16 ⌝ }
-{
-    if d < 10 { b'0' + d } else { b'A' - 10 + d }
-}
-
 fn put_byte(out: &mut [u8], at: usize, b: u8)
     requires { ⌜ at + 3 ≤ length (now out) ⌝ }
 {
-    out[at] = hex_digit(b / 16);
-    out[at + 1] = hex_digit(b % 16);
+    let pair = hexing::pair(b);
+    out[at] = pair[0];
+    out[at + 1] = pair[1];
     out[at + 2] = b' ';
 }
 

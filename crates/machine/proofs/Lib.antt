@@ -1,4 +1,3 @@
 pub mod Sizes
 pub mod Answering
-pub mod Loop
 pub mod Only

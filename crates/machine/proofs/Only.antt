@@ -5,7 +5,7 @@ use mathlib.Core.List.{List}
 use Prim.Native.Nat.{ℕ}
 use lib.Dec.{eqb}
 use Rattle.meaning.specs.Machine.{machine, answer}
-use Rattle.machine.specs.Running.{codeOf}
+use Rattle.machine.specs.Codes.{codeOf}
 use Rattle.machine.specs.declared.Code.{Code}
 use Rattle.machine.specs.declared.Code.the-variants.{Done, Paused, NoMatch, NoFunction, NoRoom, BadSizes, BadProgram, BadField}
 use Rattle.machine.specs.declared.Answer.{Answer}

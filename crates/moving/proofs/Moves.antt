@@ -1,11 +1,11 @@
 -- Loops that copy, move and clear: what they have done after i turns.
 use mathlib.Core.Path.{_≡_, refl, sym, _∙_, ap, subst}
-use mathlib.Core.List.{List, [], _∷_, _++_, append-assoc}
+use mathlib.Core.List.{List, [], _∷_, _++_, append-assoc, append-nil}
 use Prim.Native.Nat.{ℕ, suc, _+_, _-_, _≤_, _<_}
 use native.Mathlib.Omega.{arith}
 use native.Mathlib.Numerals.{add-one}
 use lib.ListN.{length, getD, take, drop, set, replicate, length-append, length-take, length-drop, length-set, length-replicate, getD-replicate, List·getD-append, take-append-drop}
-use lib.Seq.{paste, paste-zero, paste-suc, length-paste-head, getD-append-add, getD-drop, getD-take, take-set-lt, take-suc-set, drop-cons, set-append-left, take-all, drop-drop}
+use lib.Seq.{paste, paste-zero, paste-suc, length-paste-head, getD-append-add, getD-drop, getD-take, take-set-lt, take-suc-set, drop-cons, set-append-left, take-all, drop-drop, drop-length, length-paste, take-paste}
 
 -- d is d₀ with i of s's elements pasted in
 pub record Copied (d₀ : List ℕ) (at : ℕ) (s : List ℕ) (n : ℕ) (d : List ℕ) (i : ℕ) : Type 0 where
@@ -140,3 +140,15 @@ stayed s from at n h k =
     let q : from ≡ at = omega arith in
     rw q (sym (append-assoc (take at s) (take n (drop at s)) (drop (at + n) s) ∙ ap {B = List ℕ} (λ l. take at s ++ (take n (drop at s) ++ l)) (sym (drop-drop n at s))
     ∙ ap {B = List ℕ} (λ l. take at s ++ l) (take-append-drop n (drop at s)) ∙ take-append-drop at s))
+
+-- what is behind the gap is brought down, and what it leaves is cleared
+pub closed : (s s1 : List ℕ) {s2 : List ℕ} (lo hi : ℕ) → lo ≤ hi → hi ≤ length s → s1 ≡ paste s lo (drop hi s) (length s - hi)
+    → s2 ≡ take (lo + (length s - hi)) s1 ++ replicate (length s1 - (lo + (length s - hi))) 0 ++ drop (length s1) s1 → s2 ≡ take lo s ++ drop hi s ++ replicate (hi - lo) 0
+closed s s1 lo hi h k e e2 =
+    let n : ℕ = length s - hi in
+    let d : n ≤ length (drop hi s) = simp length-drop (omega arith) in
+    let l : length s1 ≡ length s = ap length e ∙ length-paste s lo (drop hi s) n (omega arith) d in
+    let t : take (lo + n) s1 ≡ take lo s ++ drop hi s =
+    ap (take (lo + n)) e ∙ take-paste s lo (drop hi s) n (omega arith) d ∙ rw (take-all n (drop hi s) (simp length-drop (omega arith))) in
+    let z : length s1 - (lo + n) ≡ hi - lo = omega arith in
+    e2 ∙ rw (drop-length s1, t, z) (append-nil _)

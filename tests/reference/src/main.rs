@@ -25,29 +25,33 @@ use std::collections::BTreeMap;
 use std::path::Path;
 
 const USAGE: &str = "\
-reference checks|matching|machine|desk DIR   writes the case file DIR/stdin and its print DIR/stdout
-reference manual                             lists the manual's programs, whose runs are confirmed
-reference expand DIR                         prints what expand prints for DIR/rules.bin and DIR/start.bin
-reference planner DIR                        prints what the planners print for DIR/rules.bin and DIR/start.bin
-reference bytes FILE.ref... OUT.bin          writes the last text's bytes; the texts share one name list
-reference check-brute                        compares the two matchers";
+reference cases DIR                   writes the case files into DIR/data, and their print to DIR/stdout
+reference manual                      lists the manual's programs, whose runs are confirmed
+reference expand DIR                  prints what expand prints for DIR/rules.bin and DIR/start.bin
+reference planner DIR                 prints what the planners print for DIR/rules.bin and DIR/start.bin
+reference bytes FILE.ref... OUT.bin   writes the last text's bytes; the texts share one name list
+reference check-brute                 compares the two matchers";
 
-/// The case file, its expected print, and how many cases there are of each sort.
+/// The case files, in the order in which the program runs them.
+const FILES: [(&str, fn(&mut Made)); 4] =
+    [("checks", checks), ("matching", matching), ("machine", machine), ("desk", desk)];
+
+/// A case file, its expected print, and how many cases there are of each sort.
 #[derive(Default)]
 struct Made {
-    stdin: Vec<u8>,
-    stdout: String,
+    cases: Vec<u8>,
+    lines: String,
     counts: BTreeMap<String, usize>,
 }
 
 impl Made {
     fn number(&mut self, number: usize) {
-        self.stdin.extend(u32::try_from(number).expect("four bytes hold it").to_le_bytes());
+        self.cases.extend(u32::try_from(number).expect("four bytes hold it").to_le_bytes());
     }
 
     fn bytes(&mut self, bytes: &[u8]) {
         self.number(bytes.len());
-        self.stdin.extend(bytes);
+        self.cases.extend(bytes);
     }
 
     fn start(&mut self, case: &make_machine::Case, last: u32) {
@@ -55,19 +59,19 @@ impl Made {
         self.bytes(&case.buffer);
         self.number(case.used);
         self.number(case.scratch);
-        self.stdin.push(case.fill);
+        self.cases.push(case.fill);
         self.number(last as usize);
     }
 
     fn expect(&mut self, lines: &str, sort: String) {
-        self.stdout += lines;
+        self.lines += lines;
         *self.counts.entry(sort).or_default() += 1;
     }
 }
 
 fn checks(made: &mut Made) {
     for case in make_checks::cases() {
-        made.stdin.push(case.0);
+        made.cases.push(case.0);
         made.bytes(&case.1);
         let letter = char::from(case.0);
         match make_checks::fault(&case) {
@@ -93,9 +97,9 @@ fn machine(made: &mut Made) {
     let cases = make_machine::cases();
     for case in &cases {
         made.start(case, case.budget);
-        made.stdout += &case.run().1;
+        made.lines += &case.run().1;
     }
-    made.counts = conditions::confirm(&cases, made.stdin.len());
+    made.counts = conditions::confirm(&cases, made.cases.len());
 }
 
 fn desk(made: &mut Made) {
@@ -129,28 +133,25 @@ fn bytes(texts: &[&str], out: &str) -> Result<(), String> {
     Ok(())
 }
 
-/// Writes a case file and says what is in it.
-fn write(make: fn(&mut Made), mode: &str, directory: &Path) -> std::io::Result<()> {
-    let mut made = Made::default();
-    make(&mut made);
-    std::fs::create_dir_all(directory)?;
-    std::fs::write(directory.join("stdin"), &made.stdin)?;
-    std::fs::write(directory.join("stdout"), &made.stdout)?;
-    println!("{mode}: {} bytes of cases, {} lines expected", made.stdin.len(), made.stdout.lines().count());
-    made.counts.iter().for_each(|(sort, count)| println!("  {sort}: {count}"));
-    Ok(())
+/// Writes the case files and their print, and says what is in each.
+fn write(directory: &Path) -> std::io::Result<()> {
+    let mut lines = String::new();
+    std::fs::create_dir_all(directory.join("data"))?;
+    for (name, make) in FILES {
+        let mut made = Made::default();
+        make(&mut made);
+        std::fs::write(directory.join("data").join(name), &made.cases)?;
+        println!("{name}: {} bytes of cases, {} lines expected", made.cases.len(), made.lines.lines().count());
+        made.counts.iter().for_each(|(sort, count)| println!("  {sort}: {count}"));
+        lines += &made.lines;
+    }
+    std::fs::write(directory.join("stdout"), lines)
 }
 
 fn act(words: &[&str]) -> Result<(), String> {
-    let cases = |make, directory: &str| {
-        write(make, words[0], Path::new(directory)).map_err(|fault| format!("{directory}: {fault}"))
-    };
     match *words {
         ["check-brute"] => check_brute(),
-        ["checks", directory] => return cases(checks, directory),
-        ["matching", directory] => return cases(matching, directory),
-        ["machine", directory] => return cases(machine, directory),
-        ["desk", directory] => return cases(desk, directory),
+        ["cases", directory] => return write(Path::new(directory)).map_err(|fault| format!("{directory}: {fault}")),
         ["manual"] => manual::programs().iter().zip(manual::FILES).for_each(|(_, (name, _))| println!("{name}")),
         ["expand", directory] => print!("{}", expand::expand(Path::new(directory))),
         ["planner", directory] => {

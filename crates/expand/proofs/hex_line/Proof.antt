@@ -5,10 +5,6 @@ use Prim.Native.Nat.{_-_, _≤_}
 use native.Mathlib.Omega.{arith}
 use Rattle.expand.proofs.hex_line.Statement.{statement}
 use Rattle.expand.proofs.hex_line.Tie as tie
-use Rattle.expand.proofs.hex_line.Reads as reads
-use Rattle.expand.proofs.hex_line.Lts as lts
-use Rattle.expand.proofs.hex_end.Reads as hex-end-reads
-use Rattle.expand.proofs.hex_part.Reads as hex-part-reads
 
 abbrev Inv-loop : tie.InvT-loop
 Inv-loop s at₀ at = at ≤ length s
@@ -16,63 +12,48 @@ Inv-loop s at₀ at = at ≤ length s
 abbrev μ-loop : tie.MeasureT-loop
 μ-loop s at₀ at = length s - at
 
--- src/main.rt:94:5
 loop-holds : tie.Need-loop-holds Inv-loop μ-loop
 loop-holds c = omega arith
 
--- src/main.rt:94:16
 sub-loop : tie.Need-sub-loop Inv-loop μ-loop
 sub-loop c = c .loop .inv
 
--- src/main.rt:95:25
 add-hex-part : tie.Need-add-hex-part Inv-loop μ-loop
 add-hex-part c = omega (arith, c .loop-test .taken)
 
--- src/main.rt:95:18
 sub-hex-part : tie.Need-sub-hex-part Inv-loop μ-loop
 sub-hex-part c = search needs
 
--- src/main.rt:95:18
 part-hex-part-start : tie.Need-part-hex-part-start Inv-loop μ-loop
 part-hex-part-start c = search needs
 
--- src/main.rt:95:18
 part-hex-part-end : tie.Need-part-hex-part-end Inv-loop μ-loop
 part-hex-part-end c = omega (arith, c .loop-test .taken)
 
--- src/main.rt:95:9
 hex-part-requires : tie.Need-hex-part-requires Inv-loop μ-loop
 hex-part-requires c κs = part-of-64 (c .before .before .loop .at) _
 
--- src/main.rt:96:9
 add-at : tie.Need-add-at Inv-loop μ-loop
 add-at c = omega (arith, c .before .before .loop-test .taken)
 
--- src/main.rt:94:5
 loop-less : tie.Need-loop-less Inv-loop μ-loop
 loop-less c = omega (arith, c .before .before .loop-test .taken)
 
--- src/main.rt:94:5
 loop-again : tie.Need-loop-again Inv-loop μ-loop
 loop-again c = omega (arith, c .before .before .loop-test .taken)
 
--- src/main.rt:98:13
 sub-hex-end : tie.Need-sub-hex-end Inv-loop μ-loop
 sub-hex-end c = c .before .loop .inv
 
--- src/main.rt:98:13
 part-hex-end-start : tie.Need-part-hex-end-start Inv-loop μ-loop
 part-hex-end-start c = search needs
 
--- src/main.rt:98:13
 part-hex-end-end : tie.Need-part-hex-end-end Inv-loop μ-loop
 part-hex-end-end c = search needs
 
--- src/main.rt:98:5
 hex-end-requires : tie.Need-hex-end-requires Inv-loop μ-loop
 hex-end-requires c κs = part-short _ _ (c .before .loop-test .left)
 
--- src/main.rt:92:1
 returns : tie.Need-returns Inv-loop μ-loop
 returns c = search needs
 

@@ -2,65 +2,46 @@ use native.Mathlib.Omega.{arith}
 use borrow.Author.Needs.{needs}
 use Rattle.expand.proofs.main.Statement.{statement}
 use Rattle.expand.proofs.main.Tie as tie
-use Rattle.expand.proofs.main.Reads as reads
-use Rattle.expand.proofs.main.Lts as lts
-use Rattle.expand.proofs.expand_start.Reads as expand-start-reads
-use Rattle.expand.proofs.load.Reads as load-reads
-use Rattle.expand.proofs.too_long.Reads as too-long-reads
 
--- src/main.rt:131:16
 slice-aggregate-load : tie.Need-slice-aggregate-load
 slice-aggregate-load c = search needs
 
--- src/main.rt:131:30
 slice-aggregate-load-2 : tie.Need-slice-aggregate-load-2
 slice-aggregate-load-2 c = search needs
 
--- src/main.rt:131:11
 load-requires : tie.Need-load-requires
 load-requires c κs = search needs
 
--- src/main.rt:132:23
 enum-known-n : tie.Need-enum-known-n
 enum-known-n c = search needs
 
--- src/main.rt:132:42
 sub-expand-start : tie.Need-sub-expand-start
 sub-expand-start c = search needs
 
--- src/main.rt:132:42
 part-expand-start-start : tie.Need-part-expand-start-start
 part-expand-start-start c = search needs
 
--- src/main.rt:132:42
 part-expand-start-end : tie.Need-part-expand-start-end
 part-expand-start-end c = let w = (rw (c .before .before .n .given .1) at (c .before .before .before .before .before .load .ensures)) in omega (arith, w)
 
--- src/main.rt:132:58
 slice-aggregate-expand-start : tie.Need-slice-aggregate-expand-start
 slice-aggregate-expand-start c = search needs
 
--- src/main.rt:132:70
 slice-aggregate-expand-start-2 : tie.Need-slice-aggregate-expand-start-2
 slice-aggregate-expand-start-2 c = search needs
 
--- src/main.rt:132:29
 expand-start-requires : tie.Need-expand-start-requires
 expand-start-requires c κs = search needs
 
--- src/main.rt:133:28
 enum-told : tie.Need-enum-told
 enum-told c = search needs
 
--- src/main.rt:133:28
 too-long-requires : tie.Need-too-long-requires
 too-long-requires c κs = search needs
 
--- src/main.rt:127:1
 returns : tie.Need-returns
 returns c = search needs
 
--- src/main.rt:127:1
 returns-2 : tie.Need-returns-2
 returns-2 c = search needs
 

@@ -5,9 +5,6 @@ use mathlib.Core.Path.{_≡_, refl, _∙_}
 use native.Mathlib.Omega.{arith}
 use Rattle.expand.proofs.spell.Statement.{statement}
 use Rattle.expand.proofs.spell.Tie as tie
-use Rattle.expand.proofs.spell.Reads as reads
-use Rattle.expand.proofs.spell.Lts as lts
-use Rattle.expand.proofs.put_byte.Reads as put-byte-reads
 
 abbrev Inv-loop : tie.InvT-loop
 Inv-loop s out₀ i₀ out i = length out ≡ length out₀
@@ -15,39 +12,30 @@ Inv-loop s out₀ i₀ out i = length out ≡ length out₀
 abbrev μ-loop : tie.MeasureT-loop
 μ-loop s out₀ i₀ out i = length s - i
 
--- src/main.rt:59:5
 loop-holds : tie.Need-loop-holds Inv-loop μ-loop
 loop-holds c = refl
 
--- src/main.rt:60:23
 mul-put-byte : tie.Need-mul-put-byte Inv-loop μ-loop
 mul-put-byte c = search needs
 
--- src/main.rt:60:30
 shared-slice-read-put-byte : tie.Need-shared-slice-read-put-byte Inv-loop μ-loop
 shared-slice-read-put-byte c = search needs
 
--- src/main.rt:60:9
 put-byte-requires : tie.Need-put-byte-requires Inv-loop μ-loop
 put-byte-requires c κs = omega (arith, c .before .before .before .loop .inv, c .before .before .loop-test .taken)
 
--- src/main.rt:61:9
 add-i : tie.Need-add-i Inv-loop μ-loop
 add-i c = search needs
 
--- src/main.rt:59:5
 loop-less : tie.Need-loop-less Inv-loop μ-loop
 loop-less c = omega (arith, c .before .before .before .before .before .loop-test .taken)
 
--- src/main.rt:59:5
 loop-again : tie.Need-loop-again Inv-loop μ-loop
 loop-again c = c .before .before .put-byte .kept .0 ∙ c .before .before .before .before .before .before .loop .inv
 
--- src/main.rt:55:1
 same-length : tie.Need-same-length Inv-loop μ-loop
 same-length c = c .before .loop .inv
 
--- src/main.rt:55:1
 returns : tie.Need-returns Inv-loop μ-loop
 returns c = search needs
 

@@ -1,7 +1,7 @@
 use Rattle.machine.proofs.Answering.{check-good, check-bad, never-short, bad-program, bad-sizes}
 use Rattle.meaning.specs.Goodness.{badProgram}
 use borrow.Author.Tests.{not-true, not-false}
-use mathlib.Core.Path.{sym, _∙_}
+use mathlib.Core.Path.{refl, sym, _∙_}
 use borrow.Author.Needs.{needs}
 use Rattle.machine.proofs.run.Statement.{statement}
 use Rattle.machine.proofs.run.Tie as tie
@@ -13,10 +13,10 @@ refusal-requires : tie.Need-refusal-requires
 refusal-requires c κs = search needs
 
 same-length : tie.Need-same-length
-same-length c = search needs
+same-length c = refl
 
 same-length-2 : tie.Need-same-length-2
-same-length-2 c = search needs
+same-length-2 c = refl
 
 returns : tie.Need-returns
 returns c = bad-sizes _ _ _ _ _ (sym (c .before .before .sizes-fit .ensures) ∙ not-true _ (c .before .if1 .taken)) (c .refusal .ensures)
@@ -28,7 +28,11 @@ enum-told : tie.Need-enum-told
 enum-told c = search needs
 
 run-field-requires : tie.Need-run-field-requires
-run-field-requires c κs = record { sizes-fit = sym (c .before .before .before .before .before .before .sizes-fit .ensures) ∙ not-false _ (c .before .before .before .before .before .if1 .left); program = check-good (badProgram _) (c .before .before .before .before .check-program .ensures) (c .before .before .enum-told .given .1) }
+run-field-requires c κs =
+    record {
+      sizes-fit = sym (c .before .before .before .before .before .before .sizes-fit .ensures) ∙ not-false _ (c .before .before .before .before .before .if1 .left);
+      program = check-good (badProgram _) (c .before .before .before .before .check-program .ensures) (c .before .before .enum-told .given .1);
+    }
 
 enum-known-place : tie.Need-enum-known-place
 enum-known-place c = search needs
@@ -46,28 +50,33 @@ refusal-requires-3 : tie.Need-refusal-requires-3
 refusal-requires-3 c κs = search needs
 
 same-length-3 : tie.Need-same-length-3
-same-length-3 c = search needs
+same-length-3 c = c .before .before .before .before .run-field .kept .1 .0
 
 same-length-4 : tie.Need-same-length-4
-same-length-4 c = search needs
+same-length-4 c = c .before .before .before .before .run-field .kept .1 .1 .1 .0
 
 returns-2 : tie.Need-returns-2
-returns-2 c = search needs
+returns-2 c = c .before .before .before .before .run-field .ensures
 
 same-length-5 : tie.Need-same-length-5
-same-length-5 c = search needs
+same-length-5 c = refl
 
 same-length-6 : tie.Need-same-length-6
-same-length-6 c = search needs
+same-length-6 c = c .before .before .before .clear .kept .0
 
 returns-3 : tie.Need-returns-3
-returns-3 c = bad-program _ _ _ _ _ (sym (c .before .before .before .before .before .before .before .before .before .before .sizes-fit .ensures) ∙ not-false _ (c .before .before .before .before .before .before .before .before .before .if1 .left)) (check-bad (badProgram _) (c .before .before .before .before .before .before .before .before .check-program .ensures) (c .before .before .before .before .before .before .place .given .1)) _ (c .before .before .before .clear .ensures) (c .refusal2 .ensures)
+returns-3 c =
+    let fit = sym (c .before .before .before .before .before .before .before .before .before .before .sizes-fit .ensures) ∙ not-false _ (c .before .before .before .before
+    .before .before .before .before .before .if1 .left) in
+    let bad = check-bad (badProgram _) (c .before .before .before .before .before .before .before .before .check-program .ensures) (c .before .before .before .before
+    .before .before .place .given .1) in
+    bad-program _ _ _ _ _ fit bad _ (c .before .before .before .clear .ensures) (c .refusal2 .ensures)
 
 same-length-7 : tie.Need-same-length-7
-same-length-7 c = search needs
+same-length-7 c = refl
 
 same-length-8 : tie.Need-same-length-8
-same-length-8 c = search needs
+same-length-8 c = refl
 
 returns-4 : tie.Need-returns-4
 returns-4 c = absurd (never-short (badProgram _) (c .before .before .before .check-program .ensures) (c .before .enum-told2 .given .1))

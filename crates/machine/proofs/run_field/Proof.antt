@@ -1,6 +1,6 @@
-use Rattle.machine.proofs.Answering.{check-good, check-bad, never-short, used-fits, field-check, scratch-zero, checked, good-run, bad-field}
+use Rattle.machine.proofs.Answering.{check-good, check-bad, never-short, used-fits, field-check, scratch-zero, checked, same-run, bad-field}
 use Rattle.meaning.specs.Goodness.{badField}
-use mathlib.Core.Path.{_∙_}
+use mathlib.Core.Path.{refl, _∙_}
 use native.Mathlib.Omega.{arith}
 use borrow.Author.Needs.{needs}
 use Rattle.machine.proofs.run_field.Statement.{statement}
@@ -21,8 +21,11 @@ check-field-requires c κs = search needs
 enum-told : tie.Need-enum-told
 enum-told c = search needs
 
-run-good-requires : tie.Need-run-good-requires
-run-good-requires c κs = checked _ _ _ _ (c .before .before .before .before .before .before .before .before .before .before .before .before .before .pre) _ (search needs) (check-good (badField _) (c .before .before .before .before .before .before .check-field .ensures .0 ∙ field-check _ _ _ _ (c .before .before .before .before .before .before .before .before .before .before .before .before .before .pre)) (c .before .before .enum-told .given .1))
+run-checked-requires : tie.Need-run-checked-requires
+run-checked-requires c κs =
+    let z = c .before .before .before .before .before .before .before .before .before .before .before .before .before .pre in
+    checked _ _ _ _ z _ (c .before .before .before .before .before .before .check-field .kept .1 .0) (check-good (badField _) (c .before .before .before .before .before
+    .before .check-field .ensures .0 ∙ field-check _ _ _ _ z) (c .before .before .enum-told .given .1))
 
 enum-known-place : tie.Need-enum-known-place
 enum-known-place c = search needs
@@ -37,31 +40,43 @@ refusal-requires-2 : tie.Need-refusal-requires-2
 refusal-requires-2 c κs = search needs
 
 same-length : tie.Need-same-length
-same-length c = search needs
+same-length c = c .before .before .before .before .run-checked .kept .1 .0
 
 same-length-2 : tie.Need-same-length-2
-same-length-2 c = search needs
+same-length-2 c =
+    c .before .before .before .before .run-checked .kept .1 .1 .1 .0 ∙ c .before .before .before .before .before .before .before .before .before .before
+    .before .check-field .kept .1 .0
 
 returns : tie.Need-returns
-returns c = good-run _ _ _ _ (c .before .before .before .before .before .before .before .before .before .before .before .before .before .before .before .before .before .before .pre) _ (search needs) (check-good (badField _) (c .before .before .before .before .before .before .before .before .before .before .before .check-field .ensures .0 ∙ field-check _ _ _ _ (c .before .before .before .before .before .before .before .before .before .before .before .before .before .before .before .before .before .before .pre)) (c .before .before .before .before .before .before .before .enum-told .given .1)) _ (c .before .before .before .before .run-good .ensures)
+returns c =
+    let z = c .before .before .before .before .before .before .before .before .before .before .before .before .before .before .before .before .before .before .pre in
+    let k = c .before .before .before .before .before .before .before .before .before .before .before .check-field in
+    let good = check-good (badField _) (k .ensures .0 ∙ field-check _ _ _ _ z) (c .before .before .before .before .before .before .before .enum-told .given .1) in
+    same-run _ _ _ _ z _ (k .kept .1 .0) good _ (c .before .before .before .before .run-checked .ensures)
 
 same-length-3 : tie.Need-same-length-3
-same-length-3 c = search needs
+same-length-3 c = refl
 
 same-length-4 : tie.Need-same-length-4
-same-length-4 c = search needs
+same-length-4 c = c .before .before .before .before .before .before .check-field .kept .1 .0
 
 returns-2 : tie.Need-returns-2
-returns-2 c = bad-field _ _ _ _ (c .before .before .before .before .before .before .before .before .before .before .before .before .before .pre) _ (check-bad (badField _) (c .before .before .before .before .before .before .check-field .ensures .0 ∙ field-check _ _ _ _ (c .before .before .before .before .before .before .before .before .before .before .before .before .before .pre)) (c .before .before .place .given .1)) _ (c .before .before .before .before .before .before .check-field .ensures .1 ∙ scratch-zero _ _ _ _ (c .before .before .before .before .before .before .before .before .before .before .before .before .before .pre)) (c .refusal .ensures)
+returns-2 c =
+    let z = c .before .before .before .before .before .before .before .before .before .before .before .before .before .pre in
+    let k = c .before .before .before .before .before .before .check-field in
+    let bad = check-bad (badField _) (k .ensures .0 ∙ field-check _ _ _ _ z) (c .before .before .place .given .1) in
+    bad-field _ _ _ _ z _ bad _ (k .ensures .1 ∙ scratch-zero _ _ _ _ z) (c .refusal .ensures)
 
 same-length-5 : tie.Need-same-length-5
-same-length-5 c = search needs
+same-length-5 c = refl
 
 same-length-6 : tie.Need-same-length-6
-same-length-6 c = search needs
+same-length-6 c = c .before .before .before .before .before .check-field .kept .1 .0
 
 returns-3 : tie.Need-returns-3
-returns-3 c = absurd (never-short (badField _) (c .before .before .before .before .before .check-field .ensures .0 ∙ field-check _ _ _ _ (c .before .before .before .before .before .before .before .before .before .before .before .before .pre)) (c .before .enum-told2 .given .1))
+returns-3 c =
+    absurd (never-short (badField _) (c .before .before .before .before .before .check-field .ensures .0 ∙ field-check _ _ _ _ (c .before .before .before .before .before
+    .before .before .before .before .before .before .before .pre)) (c .before .enum-told2 .given .1))
 
 pub run-field-spec : {M : Type 1} → statement M
 run-field-spec =
@@ -72,7 +87,7 @@ run-field-spec =
     part-check-field-end
     check-field-requires
     enum-told
-    run-good-requires
+    run-checked-requires
     enum-known-place
     refusal-requires
     enum-told-2

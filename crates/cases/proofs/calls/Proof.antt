@@ -1,0 +1,64 @@
+use mathlib.Core.Path.{_≡_, refl, _∙_}
+use Prim.Native.Nat.{_-_}
+use native.Mathlib.Omega.{arith}
+use lib.ListN.{length}
+use borrow.Author.Needs.{needs}
+use Rattle.cases.proofs.calls.Statement.{statement}
+use Rattle.cases.proofs.calls.Tie as tie
+
+abbrev Inv-loop : tie.InvT-loop
+Inv-loop program field₀ used scratch₀ n now₀ i₀ field scratch now i =
+    (length field ≡ length field₀) × (length scratch ≡ length scratch₀)
+
+abbrev μ-loop : tie.MeasureT-loop
+μ-loop program field₀ used scratch₀ n now₀ i₀ field scratch now i = n - i
+
+fresh-requires : tie.Need-fresh-requires Inv-loop μ-loop
+fresh-requires c κs = search needs
+
+loop-holds : tie.Need-loop-holds Inv-loop μ-loop
+loop-holds c = (refl, refl)
+
+call-requires : tie.Need-call-requires Inv-loop μ-loop
+call-requires c κs = search needs
+
+noted-requires : tie.Need-noted-requires Inv-loop μ-loop
+noted-requires c κs = search needs
+
+add-i : tie.Need-add-i Inv-loop μ-loop
+add-i c = search needs
+
+loop-less : tie.Need-loop-less Inv-loop μ-loop
+loop-less c = omega (arith, c .before .before .before .before .before .before .before .before .before .before .loop-test .taken)
+
+loop-again : tie.Need-loop-again Inv-loop μ-loop
+loop-again c =
+    let one = c .before .before .before .before .before .before .before .call .kept in
+    let inv = c .before .before .before .before .before .before .before .before .before .before .before .loop .inv in
+    (one .1 .1 .0 ∙ inv .0, one .1 .1 .1 .0 ∙ inv .1)
+
+same-length : tie.Need-same-length Inv-loop μ-loop
+same-length c = c .before .loop .inv .0
+
+same-length-2 : tie.Need-same-length-2 Inv-loop μ-loop
+same-length-2 c = c .before .loop .inv .1
+
+returns : tie.Need-returns Inv-loop μ-loop
+returns c = search needs
+
+pub calls-spec : {M : Type 1} → statement M
+calls-spec =
+    tie.close
+    (tie.spec
+    Inv-loop
+    μ-loop
+    fresh-requires
+    loop-holds
+    call-requires
+    noted-requires
+    add-i
+    loop-less
+    loop-again
+    same-length
+    same-length-2
+    returns)
