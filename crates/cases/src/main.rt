@@ -1,6 +1,7 @@
 // Runs the case files of data/, and prints what each case gives.
 use casework::Word;
 use checking::Check;
+use checking_fields::FieldCheck;
 use desk::Record;
 use machine::Answer;
 
@@ -16,7 +17,14 @@ fn found(check: Check) {
     match check {
         Check::Good => casework::text(b"good\n"),
         Check::Bad(place) => casework::decimal(place as u64, b"\n"),
-        Check::Short => casework::text(b"short\n"),
+    }
+}
+
+fn found_in_field(check: FieldCheck) {
+    match check {
+        FieldCheck::Good => casework::text(b"good\n"),
+        FieldCheck::Bad(place) => casework::decimal(place as u64, b"\n"),
+        FieldCheck::Short => casework::text(b"short\n"),
     }
 }
 
@@ -27,7 +35,7 @@ fn check(file: i32, bytes: &mut [u8], scratch: &mut [u8]) -> bool {
     let n = casework::load(file, bytes);
     match tag[0] {
         b'P' => found(checking::check_program(&bytes[0..n])),
-        b'F' => found(checking::check_field(&bytes[0..n], scratch)),
+        b'F' => found_in_field(checking_fields::check_field(&bytes[0..n], scratch)),
         _ => return false,
     }
     true

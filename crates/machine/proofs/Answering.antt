@@ -14,9 +14,12 @@ use Rattle.meaning.specs.Goodness.{badProgram, badField}
 use Rattle.meaning.specs.Machine.{longest, sizes, Result, result, run, closing, Answer, answer, machine}
 use Rattle.meaning.proofs.Truth.{never, and-right}
 use Rattle.meaning.proofs.Answers.{sizes-used}
-use Rattle.checking.specs.Answers.{checkOf, fieldCheck, scratchAfter}
+use Rattle.checking.specs.Answers.{checkOf}
+use Rattle.checking_fields.specs.Answers.{checkOf as fieldOf, fieldCheck, scratchAfter}
+use Rattle.checking_fields.specs.declared.FieldCheck.{FieldCheck}
+use Rattle.checking_fields.specs.declared.FieldCheck.the-variants.{Good as FieldGood, Bad as FieldBad, Short}
 use Rattle.checking.specs.declared.Check.{Check}
-use Rattle.checking.specs.declared.Check.the-variants.{Good, Bad, Short}
+use Rattle.checking.specs.declared.Check.the-variants.{Good, Bad}
 use Rattle.running.specs.Running.{Checked}
 use Rattle.running.proofs.Start.{scratch-size}
 use Rattle.running.proofs.End.{cleared}
@@ -32,7 +35,15 @@ pub check-bad : {r : Check} {i : ℕ} (o : Option ℕ) → r ≡ checkOf o → r
 check-bad none h q = never (cc)
 check-bad (some j) h q = cc
 
-pub never-short : {r : Check} (o : Option ℕ) → r ≡ checkOf o → r ≡ Short → ⊥
+pub field-good : {r : FieldCheck} (o : Option ℕ) → r ≡ fieldOf o → r ≡ FieldGood → o ≡ none
+field-good none h q = refl
+field-good (some i) h q = never (cc)
+
+pub field-bad : {r : FieldCheck} {i : ℕ} (o : Option ℕ) → r ≡ fieldOf o → r ≡ FieldBad i → o ≡ some i
+field-bad none h q = never (cc)
+field-bad (some j) h q = cc
+
+pub never-short : {r : FieldCheck} (o : Option ℕ) → r ≡ fieldOf o → r ≡ Short → ⊥
 never-short none h q = never (cc)
 never-short (some i) h q = never (cc)
 
@@ -56,7 +67,7 @@ module _ (p f : List ℕ) (used : ℕ) (s : List ℕ) (z : Sized p f used s) whe
   part-is : take (used - 0) (drop 0 f) ≡ take used f
   part-is = let q : used - 0 ≡ used = omega arith in rw q
 
-  pub field-check : fieldCheck (take (used - 0) (drop 0 f)) s ≡ checkOf (badField (take used f))
+  pub field-check : fieldCheck (take (used - 0) (drop 0 f)) s ≡ fieldOf (badField (take used f))
   unfolding fieldCheck
   field-check = rw (part-is, scratch-enough)
 

@@ -1,5 +1,6 @@
 // The machine: any bytes, sizes and budget in, one of eight answers out.
 use checking::Check;
+use checking_fields::FieldCheck;
 ghost use mathlib.Core.Path.{_≡_};
 ghost use Prim.Native.Nat.{_≤_};
 ghost use Rattle.meaning.specs.Machine.{sizes, machine, answer};
@@ -114,11 +115,11 @@ fn run_field(
     requires { ⌜ Sized (now program) (now field) used (now scratch) ⌝ }
     ensures { λ r. ⌜ machine (now (program .entry)) (now (field .entry)) used (now (scratch .entry)) budget ≡ answer (codeOf (r .code)) (r .steps) (r .used) (r .place) (now (field .exit)) (now (scratch .exit)) ⌝ }
 {
-    match checking::check_field(&field[0..used], scratch) {
-        Check::Good => run_checked(program, field, used, scratch, budget),
-        Check::Bad(place) => refusal(Code::BadField, used, place),
+    match checking_fields::check_field(&field[0..used], scratch) {
+        FieldCheck::Good => run_checked(program, field, used, scratch, budget),
+        FieldCheck::Bad(place) => refusal(Code::BadField, used, place),
         // the scratch is as long as the field buffer
-        Check::Short => refusal(Code::BadSizes, used, 0),
+        FieldCheck::Short => refusal(Code::BadSizes, used, 0),
     }
 }
 
@@ -135,7 +136,5 @@ pub fn run(program: &[u8], field: &mut [u8], used: usize, scratch: &mut [u8], bu
             moving::clear(scratch, 0, scratch.len());
             refusal(Code::BadProgram, used, place)
         }
-        // a program needs no scratch
-        Check::Short => refusal(Code::BadSizes, used, 0),
     }
 }

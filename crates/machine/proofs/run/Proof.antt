@@ -1,4 +1,4 @@
-use Rattle.machine.proofs.Answering.{check-good, check-bad, never-short, bad-program, bad-sizes}
+use Rattle.machine.proofs.Answering.{check-good, check-bad, bad-program, bad-sizes}
 use Rattle.meaning.specs.Goodness.{badProgram}
 use borrow.Author.Tests.{not-true, not-false}
 use mathlib.Core.Path.{refl, sym, _∙_}
@@ -43,12 +43,6 @@ clear-requires c κs = search needs
 refusal-requires-2 : tie.Need-refusal-requires-2
 refusal-requires-2 c κs = search needs
 
-enum-told-2 : tie.Need-enum-told-2
-enum-told-2 c = search needs
-
-refusal-requires-3 : tie.Need-refusal-requires-3
-refusal-requires-3 c κs = search needs
-
 same-length-3 : tie.Need-same-length-3
 same-length-3 c = c .before .before .before .before .run-field .kept .1 .0
 
@@ -72,15 +66,6 @@ returns-3 c =
     .before .before .place .given .1) in
     bad-program _ _ _ _ _ fit bad _ (c .before .before .before .clear .ensures) (c .refusal2 .ensures)
 
-same-length-7 : tie.Need-same-length-7
-same-length-7 c = refl
-
-same-length-8 : tie.Need-same-length-8
-same-length-8 c = refl
-
-returns-4 : tie.Need-returns-4
-returns-4 c = absurd (never-short (badProgram _) (c .before .before .before .check-program .ensures) (c .before .enum-told2 .given .1))
-
 pub run-spec : {M : Type 1} → statement M
 run-spec =
     tie.close
@@ -96,14 +81,9 @@ run-spec =
     enum-known-place
     clear-requires
     refusal-requires-2
-    enum-told-2
-    refusal-requires-3
     same-length-3
     same-length-4
     returns-2
     same-length-5
     same-length-6
-    returns-3
-    same-length-7
-    same-length-8
-    returns-4)
+    returns-3)

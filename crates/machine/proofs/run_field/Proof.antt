@@ -1,4 +1,4 @@
-use Rattle.machine.proofs.Answering.{check-good, check-bad, never-short, used-fits, field-check, scratch-zero, checked, same-run, bad-field}
+use Rattle.machine.proofs.Answering.{field-good, field-bad, never-short, used-fits, field-check, scratch-zero, checked, same-run, bad-field}
 use Rattle.meaning.specs.Goodness.{badField}
 use mathlib.Core.Path.{refl, _∙_}
 use native.Mathlib.Omega.{arith}
@@ -24,7 +24,7 @@ enum-told c = search needs
 run-checked-requires : tie.Need-run-checked-requires
 run-checked-requires c κs =
     let z = c .before .before .before .before .before .before .before .before .before .before .before .before .before .pre in
-    checked _ _ _ _ z _ (c .before .before .before .before .before .before .check-field .kept .1 .0) (check-good (badField _) (c .before .before .before .before .before
+    checked _ _ _ _ z _ (c .before .before .before .before .before .before .check-field .kept .1 .0) (field-good (badField _) (c .before .before .before .before .before
     .before .check-field .ensures .0 ∙ field-check _ _ _ _ z) (c .before .before .enum-told .given .1))
 
 enum-known-place : tie.Need-enum-known-place
@@ -51,7 +51,7 @@ returns : tie.Need-returns
 returns c =
     let z = c .before .before .before .before .before .before .before .before .before .before .before .before .before .before .before .before .before .before .pre in
     let k = c .before .before .before .before .before .before .before .before .before .before .before .check-field in
-    let good = check-good (badField _) (k .ensures .0 ∙ field-check _ _ _ _ z) (c .before .before .before .before .before .before .before .enum-told .given .1) in
+    let good = field-good (badField _) (k .ensures .0 ∙ field-check _ _ _ _ z) (c .before .before .before .before .before .before .before .enum-told .given .1) in
     same-run _ _ _ _ z _ (k .kept .1 .0) good _ (c .before .before .before .before .run-checked .ensures)
 
 same-length-3 : tie.Need-same-length-3
@@ -64,7 +64,7 @@ returns-2 : tie.Need-returns-2
 returns-2 c =
     let z = c .before .before .before .before .before .before .before .before .before .before .before .before .before .pre in
     let k = c .before .before .before .before .before .before .check-field in
-    let bad = check-bad (badField _) (k .ensures .0 ∙ field-check _ _ _ _ z) (c .before .before .place .given .1) in
+    let bad = field-bad (badField _) (k .ensures .0 ∙ field-check _ _ _ _ z) (c .before .before .place .given .1) in
     bad-field _ _ _ _ z _ bad _ (k .ensures .1 ∙ scratch-zero _ _ _ _ z) (c .refusal .ensures)
 
 same-length-5 : tie.Need-same-length-5

@@ -1,4 +1,4 @@
-use Rattle.choosing.proofs.Cached.{empty-cache}
+use Rattle.choosing.proofs.Table.{empty-cache}
 use Rattle.running.proofs.Start.{ready}
 use Rattle.running.proofs.End.{ended}
 use borrow.Author.Needs.{needs}
