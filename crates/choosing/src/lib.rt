@@ -172,9 +172,9 @@ pub fn look_up(program: &[u8], lo: u8, hi: u8, indexed: &mut [usize], spots: &mu
         return Spot::Nowhere;
     }
     let c = Cursor { at: place - 1 };
-    let header = c.read_as(program, 13);
-    let body = header.next;
-    if is_name(header.number, lo, hi) {
+    let first = c.read_as(program, 13);
+    let body = first.next;
+    if is_name(first.number, lo, hi) {
         return Spot::At(body);
     }
     // another name came first

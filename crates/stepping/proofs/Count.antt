@@ -154,8 +154,8 @@ variable-calm : (e : Element) → isVariable e ≡ true → isCall e ≡ false
 variable-calm e h = let (a, b) = var-range e h in rw (ne-eqb (kind e) 6 (λ q. omega (arith, q)), ne-eqb (kind e) 7 (λ q. omega (arith, q)))
 
 -- of a right side with its values put in
-pub marks-put : (f b : List ℕ) (val : Element → List Element) (side : List Element) (at : ℕ) → ((v : Element) → among v side ≡ true → isVariable v ≡ true → Calm f b v (val v)) → ((v : Element) → isVariable v ≡ false → val v ≡ v ∷ [])
-    → marksOf at (put val side) ≡ placed at b side
+pub marks-put : (f b : List ℕ) (val : Element → List Element) (side : List Element) (at : ℕ)
+    → ((v : Element) → among v side ≡ true → isVariable v ≡ true → Calm f b v (val v)) → ((v : Element) → isVariable v ≡ false → val v ≡ v ∷ []) → marksOf at (put val side) ≡ placed at b side
 unfolding put marksOf placed
 marks-put f b val [] at vs ls = refl
 marks-put f b val (e ∷ side) at vs ls =
@@ -177,7 +177,8 @@ marks-put f b val (e ∷ side) at vs ls =
 -- NOTES OVER NOTES
 pub noted-top : (calls vs : List ℕ) (first top : ℕ) → first + length vs ≡ top → top ≤ length calls → drop first (sets calls first vs) ≡ vs ++ drop top calls
 noted-top calls vs first top e h =
-    ap (drop first) (sets-eq vs calls first (omega arith)) ∙ ap (drop first) (append-assoc (take first calls) vs (drop (first + length vs) calls)) ∙ drop-at (take first calls) _ first (length-take-le first calls (omega arith))
+    ap (drop first) (sets-eq vs calls first (omega arith)) ∙ ap (drop first) (append-assoc (take first calls) vs (drop (first + length vs) calls))
+    ∙ drop-at (take first calls) _ first (length-take-le first calls (omega arith))
     ∙ ap {B = List ℕ} (λ (k : ℕ). vs ++ drop k calls) e
 
 pub placed-long : (side : List Element) (b : List ℕ) (at : ℕ) → length (placed at b side) ≡ callsOf side

@@ -113,13 +113,13 @@ module _ (f : List ℕ) (lo hi at read depth top : ℕ) (calls : List ℕ) (good
     sizes : from + 3 + size (last .ys) ≡ lo
     sizes = let l = last in omega (arith, ef, l .place, r .low, ap size (l .is), size-append (l .xs) (l .c ∷ l .ys), size-cons (l .c) (l .ys), long-c)
 
-    pub may-gather : (0 < depth) × (depth ≤ length calls) × (from + 3 ≤ lo) × (lo - (from + 3) ≤ hi) × (lo ≤ hi) × (hi ≤ length f) × (from < 65536 → from + 3 < 65540)
+    pub may-gather : (0 < depth) × (depth ≤ length calls) × (from + 3 ≤ lo) × (lo - (from + 3) ≤ hi) × (lo ≤ hi) × (hi ≤ length f)
     may-gather =
         let z = sizes in
         let g = good .gap in
         let b = r .below in
         let i = r .inside in
-        (last .above, omega arith, omega arith, omega arith, g, good .fits, λ h. omega arith)
+        (last .above, omega arith, omega arith, omega arith, g, good .fits)
 
     module _ (f′ : List ℕ) (e : f′ ≡ paste f (hi - (lo - (from + 3))) (drop (from + 3) f) (lo - (from + 3))) where
       pub gathered-same : fieldAt f′ (from + 3) (hi - (lo - (from + 3))) ≡ fieldAt f lo hi

@@ -71,25 +71,29 @@ none-of (none-fits h) z = h
 none-of (one-fits r val h wr u v w y q ri vs ls) z = never (cc)
 
 -- NO FUNCTION, NO MATCH
-pub stays-3 : (p f : List ℕ) (from hi at : ℕ) → Good f (from + 3) hi → Term f from hi at → Looked p (getD f (from + 1) 0 ∷ getD f (from + 2) 0 ∷ []) Nowhere → {read depth h t : ℕ} {cs : List ℕ}
+pub stays-3 : {p f : List ℕ} {from hi at : ℕ} → Good f (from + 3) hi → Term f from hi at → Looked p (getD f (from + 1) 0 ∷ getD f (from + 2) 0 ∷ []) Nowhere
+    → {read depth h t : ℕ} {cs : List ℕ}
     → Stepped f from read depth (step (restOf p 0) (length f) (fieldAt f (from + 3) hi)) 3 h t f cs
-stays-3 p f from hi at g t l = stays (no-function f from hi at g t p (length f) (nowhere-is p _ l)) (λ z. never (omega arith)) refl
+stays-3 {p} {f} g t l = stays (no-function g t p (length f) (nowhere-is p _ l)) (λ z. never (omega arith)) refl
 
-module _ (p f : List ℕ) (from hi at : ℕ) (body : Cursor) (g : Good f (from + 3) hi) (read depth top : ℕ) (notes : List ℕ) (u : Under f from hi at read depth top notes) (l : Looked p (getD f (from + 1) 0 ∷ getD f (from + 2) 0 ∷ []) (At body)) where
+module _ {p f : List ℕ} {from hi at : ℕ} {body : Cursor} (g : Good f (from + 3) hi) {read depth top : ℕ} {notes : List ℕ} (u : Under f from hi at read depth top notes)
+    (l : Looked p (getD f (from + 1) 0 ∷ getD f (from + 2) 0 ∷ []) (At body)) where
   k : Place p (getD f (from + 1) 0 ∷ getD f (from + 2) 0 ∷ []) body
   k = place p _ body l
 
-  pub stays-2 : {b : List ℕ} {x : Bool} {a e : ℕ} → Chosen p (argumentOf f hi at) b (apply (sentences (restOf p (body .at))) (elements (argumentOf f hi at))) x a e → x ≡ false → {h w : ℕ} {cs : List ℕ}
-      → Stepped f from read depth (step (restOf p 0) (length f) (fieldAt f (from + 3) hi)) 2 h w f cs
-  stays-2 c z = stays (no-match f from hi at g (u .term) p (length f) (sentences (restOf p (body .at))) (k .is) (ap (apply (sentences (restOf p (body .at)))) (sym (arg-is f from hi at g (u .term))) ∙ none-of c z)) (λ z. never (omega arith)) refl
+  pub stays-2 : {b : List ℕ} {x : Bool} {a e : ℕ} → Chosen p (argumentOf f hi at) b (apply (sentences (restOf p (body .at))) (elements (argumentOf f hi at))) x a e → x ≡ false
+      → {h w : ℕ} {cs : List ℕ} → Stepped f from read depth (step (restOf p 0) (length f) (fieldAt f (from + 3) hi)) 2 h w f cs
+  stays-2 c z =
+      let none-fits = ap (apply (sentences (restOf p (body .at)))) (sym (arg-is g (u .term))) ∙ none-of c z in
+      stays (no-match g (u .term) p (length f) (sentences (restOf p (body .at))) (k .is) none-fits) (λ z. never (omega arith)) refl
 
   -- A SENTENCE FITS
-  module _ (b : List ℕ) (x : Bool) (a e : ℕ) (c : Chosen p (argumentOf f hi at) b (apply (sentences (restOf p (body .at))) (elements (argumentOf f hi at))) x a e) (z : x ≡ true) where
+  module _ {b : List ℕ} {x : Bool} {a e : ℕ} (c : Chosen p (argumentOf f hi at) b (apply (sentences (restOf p (body .at))) (elements (argumentOf f hi at))) x a e) (z : x ≡ true) where
     pub sd : Side p (argumentOf f hi at) b (apply (sentences (restOf p (body .at))) (elements (argumentOf f hi at))) a e
     sd = side c z
 
     ap-is : apply (sentences (restOf p (body .at))) ((u .term) .x) ≡ some (sd .r)
-    ap-is = ap (apply (sentences (restOf p (body .at)))) (sym (arg-is f from hi at g (u .term))) ∙ sd .is
+    ap-is = ap (apply (sentences (restOf p (body .at)))) (sym (arg-is g (u .term))) ∙ sd .is
 
     pub in-given : length f ≤ 65536 → Given p a e b
     in-given h = record { upto = sd .up; fits = sd .upto; arg = argumentOf f hi at; short = omega (arith, length-take (at - hi) (drop hi f), length-drop hi f); ready = sd .ready }
@@ -100,9 +104,11 @@ module _ (p f : List ℕ) (from hi at : ℕ) (body : Cursor) (g : Good f (from +
 
     pub stays-4 : {m : Bool} {n calls pivot : ℕ} → Measured p a e b (at + 1 - from) m n calls pivot → m ≡ false → {h w : ℕ} {cs : List ℕ}
         → Stepped f from read depth (step (restOf p 0) (length f) (fieldAt f (from + 3) hi)) 4 h w f cs
-    stays-4 m y = stays (no-room f from hi at g (u .term) p (length f) (sentences (restOf p (body .at))) (k .is) (sd .r) refl ap-is (let q = m .no y in omega (arith, long-r))) (λ z. never (omega arith)) refl
+    stays-4 m y =
+        let more : at + 1 - from < size (sd .r) = (let q = m .no y in omega (arith, long-r)) in
+        stays (no-room g (u .term) p (length f) (sentences (restOf p (body .at))) (k .is) (sd .r) refl ap-is more) (λ z. never (omega arith)) refl
 
-    module _ (m : Bool) (n calls pivot : ℕ) (ms : Measured p a e b (at + 1 - from) m n calls pivot) (y : m ≡ true) where
+    module _ {m : Bool} {n calls pivot : ℕ} (ms : Measured p a e b (at + 1 - from) m n calls pivot) (y : m ≡ true) where
       n-is : n ≡ size (sd .r)
       n-is = ms .yes y .0 ∙ long-r
 
@@ -110,10 +116,10 @@ module _ (p f : List ℕ) (from hi at : ℕ) (body : Cursor) (g : Good f (from +
       fit = ms .yes y .1
 
       pub step-is : step (restOf p 0) (length f) (fieldAt f (from + 3) hi) ≡ onward ((u .term) .a ++ sd .r ++ (u .term) .b)
-      step-is = new-field f from hi at g (u .term) p (length f) (sentences (restOf p (body .at))) (k .is) (sd .r) refl ap-is (let q = fit in omega (arith, n-is))
+      step-is = new-field g (u .term) p (length f) (sentences (restOf p (body .at))) (k .is) (sd .r) refl ap-is (let q = fit in omega (arith, n-is))
 
       pub start-in : (n ≤ at + 1) × (at < length f) × (at + 1 - n + spans b (sideOf p a e) ≡ at + 1)
-      start-in = let q = fit in let pl = places f from hi at g (u .term) in (omega arith, pl .2, omega (arith, ms .yes y .0))
+      start-in = let q = fit in let pl = places g (u .term) in (omega arith, pl .2, omega (arith, ms .yes y .0))
 
       module _ (ok : Functions (restOf p 0)) (room : length f ≤ 2 * length notes) where
         new : List Element
@@ -123,7 +129,7 @@ module _ (p f : List ℕ) (from hi at : ℕ) (body : Cursor) (g : Good f (from +
         pub in-count : depth + callsOf (sideOf p a e) ≤ top
         unfolding new
         in-count =
-            let wn : Whole new = new-whole f from hi at g (u .term) (sd .r-whole) in
+            let wn : Whole new = new-whole g (u .term) (sd .r-whole) in
             let gd = step-good (restOf p 0) (length f) (fieldAt f (from + 3) hi) new ok (record { solid = g .solid; balanced = g .balanced }) step-is in
             let q1 = calls-fit new wn (gd .balanced) in
             let q2 = calls-append (u .term .a ++ sd .r) (u .term .b) in
@@ -131,21 +137,22 @@ module _ (p f : List ℕ) (from hi at : ℕ) (body : Cursor) (g : Good f (from +
             let q4 = ap callsOf (u .behind) ∙ calls-append (u .known) (u .unread) in
             let q5 = opens-calls (u .opened) ∙ stack-long depth notes in
             let q6 : callsOf (sd .r) ≡ callsOf (sideOf p a e) =
-            sym (marks-long (sd .r) 0) ∙ ap (λ (es : List Element). length (marksOf 0 es)) (sd .r-is) ∙ ap length (marks-put (argumentOf f hi at) b (sd .val) (sideOf p a e) 0 (sd .vars) (sd .lits)) ∙ placed-long (sideOf p a e) b 0 in
+            sym (marks-long (sd .r) 0) ∙ ap (λ (es : List Element). length (marksOf 0 es)) (sd .r-is)
+            ∙ ap length (marks-put (argumentOf f hi at) b (sd .val) (sideOf p a e) 0 (sd .vars) (sd .lits)) ∙ placed-long (sideOf p a e) b 0 in
             let q7 : callsOf (u .known) ≡ length notes - top = sym (marks-long (u .known) (at + 1)) ∙ ap length (sym (u .marked)) ∙ length-drop top notes in
-            let ns = new-size f from hi at g (u .term) p (length f) (sentences (restOf p (body .at))) (k .is) (sd .r) in
+            let ns = new-size g (u .term) p (length f) (sentences (restOf p (body .at))) (k .is) (sd .r) in
             let ft = fit in
-            let pl = places f from hi at g (u .term) in
+            let pl = places g (u .term) in
             let i = u .inside in
             omega (arith, q1, q2, q3, q4, q5, q6, q7, ns, ft, n-is, pl .0, pl .1, i)
 
-        module _ (f′ notes′ : List ℕ) (ef : f′ ≡ take (at + 1 - spans b (sideOf p a e)) f ++ (pour (argumentOf f hi at) b (sideOf p a e) ++ drop (at + 1) f))
+        module _ {f′ notes′ : List ℕ} (ef : f′ ≡ take (at + 1 - spans b (sideOf p a e)) f ++ (pour (argumentOf f hi at) b (sideOf p a e) ++ drop (at + 1) f))
             (en : notes′ ≡ sets notes (top - calls) (placed (at + 1 - n) b (sideOf p a e))) where
           ef′ : f′ ≡ take (at + 1 - n) f ++ (pour (argumentOf f hi at) b (sideOf p a e) ++ drop (at + 1) f)
           ef′ = rw (ms .yes y .0) ef
 
           is : fieldAt f′ from (at + 1 - n) ≡ u .term .a ++ sd .r ++ u .term .b
-          is = new-is f from hi at g (u .term) (sd .r) _ n (sd .bytes) n-is fit f′ ef′ (sd .r-whole)
+          is = new-is g (u .term) (sd .r) _ n (sd .bytes) n-is fit f′ ef′ (sd .r-whole)
 
           marked : drop (top - calls) notes′ ≡ marksOf (at + 1 - n) (sd .r ++ u .known)
           marked =
@@ -153,19 +160,22 @@ module _ (p f : List ℕ) (from hi at : ℕ) (body : Cursor) (g : Good f (from +
               let cn = in-count in
               let pl = placed-long (sideOf p a e) b (at + 1 - n) in
               let q : at + 1 - n + size (sd .r) ≡ at + 1 = (let ft = fit in omega (arith, n-is)) in
+              let r-marks : marksOf (at + 1 - n) (sd .r) ≡ placed (at + 1 - n) b (sideOf p a e) =
+              ap (marksOf (at + 1 - n)) (sd .r-is) ∙ marks-put (argumentOf f hi at) b (sd .val) (sideOf p a e) (at + 1 - n) (sd .vars) (sd .lits) in
               ap (drop (top - calls)) en ∙ noted-top notes (placed (at + 1 - n) b (sideOf p a e)) (top - calls) top (omega (arith, c, pl, cn)) (u .inside)
               ∙ ap {B = List ℕ} (λ l. placed (at + 1 - n) b (sideOf p a e) ++ l) (u .marked)
-              ∙ sym (marks-append (sd .r) (u .known) (at + 1 - n) ∙ rw q (ap (λ (l : List ℕ). l ++ marksOf (at + 1) (u .known)) (ap (marksOf (at + 1 - n)) (sd .r-is) ∙ marks-put (argumentOf f hi at) b (sd .val) (sideOf p a e) (at + 1 - n) (sd .vars) (sd .lits))))
+              ∙ sym (marks-append (sd .r) (u .known) (at + 1 - n) ∙ rw q (ap (λ (l : List ℕ). l ++ marksOf (at + 1) (u .known)) r-marks))
 
           pub in-done : Stepped f from read depth (step (restOf p 0) (length f) (fieldAt f (from + 3) hi)) 0 (at + 1 - n) (top - calls) f′ notes′
           in-done =
               let c = ms .yes y .2 in
               let cn = in-count in
               let ft = fit in
-              let plc = places f from hi at g (u .term) in
+              let plc = places g (u .term) in
               let pl = placed-long (sideOf p a e) b (at + 1 - n) in
               let ins = u .inside in
-              goes {hi = at + 1 - n} {top = top - calls} {f′ = f′} {calls = notes′} (omega (arith, ft, plc .0, plc .1)) (omega (arith, plc .2)) (new-long f from hi at g (u .term) (sd .r) _ n (sd .bytes) n-is fit f′ ef′) (step-is ∙ ap onward (sym is))
+              goes {hi = at + 1 - n} {top = top - calls} {f′ = f′} {calls = notes′} (omega (arith, ft, plc .0, plc .1)) (omega (arith, plc .2))
+              (new-long g (u .term) (sd .r) _ n (sd .bytes) n-is fit f′ ef′) (step-is ∙ ap onward (sym is))
               (record {
                 front = u .term .a;
                 known = sd .r ++ u .known;

@@ -25,7 +25,7 @@ use Rattle.stepping.specs.Stepping.{argumentOf, Term}
 use Rattle.stepping.proofs.Argument.{argument-balanced}
 
 -- PLACES
-module _ (f : List ℕ) (from hi at : ℕ) (g : Good f (from + 3) hi) (t : Term f from hi at) where
+module _ {f : List ℕ} {from hi at : ℕ} (g : Good f (from + 3) hi) (t : Term f from hi at) where
   parts-x : fieldAt f (from + 3) hi ≡ (t .a ++ (t .c ∷ [])) ++ (t .x ++ (t .g ∷ t .b))
   parts-x = t .parts ∙ sym (append-assoc (t .a) (t .c ∷ []) (t .x ++ (t .g ∷ t .b)))
 
@@ -54,7 +54,9 @@ module _ (f : List ℕ) (from hi at : ℕ) (g : Good f (from + 3) hi) (t : Term 
   back = back-bytes f (from + 3) hi (t .a ++ (t .c ∷ [])) (t .x ++ (t .g ∷ t .b)) (g .gap) (g .fits) parts-x low
 
   total : at + 1 + size (t .b) ≡ length f
-  total = omega (arith, back-long f (from + 3) hi (t .a ++ (t .c ∷ [])) (t .x ++ (t .g ∷ t .b)) (g .gap) (g .fits) parts-x low, size-append (t .x) (t .g ∷ t .b), size-cons (t .g) (t .b), long-g, t .at-is)
+  total =
+      let l = back-long f (from + 3) hi (t .a ++ (t .c ∷ [])) (t .x ++ (t .g ∷ t .b)) (g .gap) (g .fits) parts-x low in
+      omega (arith, size-append (t .x) (t .g ∷ t .b), size-cons (t .g) (t .b), long-g, t .at-is)
 
   pub places : (from + 3 ≤ hi) × (hi ≤ at) × (at < length f)
   places = let z = total in let y = t .at-is in (g .gap, omega arith, omega arith)
@@ -112,14 +114,19 @@ module _ (f : List ℕ) (from hi at : ℕ) (g : Good f (from + 3) hi) (t : Term 
   after-is =
       let q : at + 1 ≡ hi + (at + 1 - hi) = (let y = t .at-is in omega arith) in
       let l : length (join (t .x) ++ t .g) ≡ at + 1 - hi = (let y = t .at-is in omega (arith, length-append (join (t .x)) (t .g), long-g)) in
-      ap (λ (k : ℕ). drop k f) q ∙ sym (drop-drop (at + 1 - hi) hi f) ∙ ap (drop (at + 1 - hi)) (back-x ∙ sym (append-assoc (join (t .x)) (t .g) (join (t .b)))) ∙ drop-at (join (t .x) ++ t .g) (join (t .b)) (at + 1 - hi) l
+      ap (λ (k : ℕ). drop k f) q ∙ sym (drop-drop (at + 1 - hi) hi f)
+      ∙ ap (drop (at + 1 - hi)) (back-x ∙ sym (append-assoc (join (t .x)) (t .g) (join (t .b))))
+      ∙ drop-at (join (t .x) ++ t .g) (join (t .b)) (at + 1 - hi) l
 
   -- WHAT THE STEP IS
   module _ (p : List ℕ) (room : ℕ) where
     step-here : (o : Option (List (List Element))) → function (getD f (from + 1) 0 ∷ getD f (from + 2) 0 ∷ []) (restOf p 0) ≡ o
         → step (restOf p 0) room (fieldAt f (from + 3) hi) ≡ call room (t .a) (t .x) (t .b) o
     unfolding step stepAt
-    step-here o h = ap (stepAt (restOf p 0) room) (t .led) ∙ ap {B = Step} (λ (n : List ℕ). call room (t .a) (t .x) (t .b) (function n (restOf p 0))) name-is ∙ ap {B = Step} (call room (t .a) (t .x) (t .b)) h
+    step-here o h =
+        ap (stepAt (restOf p 0) room) (t .led)
+        ∙ ap {B = Step} (λ (n : List ℕ). call room (t .a) (t .x) (t .b) (function n (restOf p 0))) name-is
+        ∙ ap {B = Step} (call room (t .a) (t .x) (t .b)) h
 
     pub no-function : function (getD f (from + 1) 0 ∷ getD f (from + 2) 0 ∷ []) (restOf p 0) ≡ none → step (restOf p 0) room (fieldAt f (from + 3) hi) ≡ stuck 3 from
     unfolding call
@@ -160,14 +167,23 @@ module _ (f : List ℕ) (from hi at : ℕ) (g : Good f (from + 3) hi) (t : Term 
   module _ (r : List Element) (w : List ℕ) (n : ℕ) (ew : w ≡ join r) (en : n ≡ size r) (fit : n ≤ at + 1 - from) (f′ : List ℕ) (e : f′ ≡ take (at + 1 - n) f ++ (w ++ drop (at + 1) f)) where
     pub new-long : length f′ ≡ length f
     unfolding size
-    new-long = let pl = places in omega (arith, ap length e, length-append (take (at + 1 - n) f) (w ++ drop (at + 1) f), length-append w (drop (at + 1) f), length-take-le (at + 1 - n) f (omega (arith, pl .2)), length-drop (at + 1) f, ap length ew, pl .2)
+    new-long =
+        let pl = places in
+        let lt = length-take-le (at + 1 - n) f (omega (arith, pl .2)) in
+        omega (arith, ap length e, length-append (take (at + 1 - n) f) (w ++ drop (at + 1) f), length-append w (drop (at + 1) f), length-drop (at + 1) f, ap length ew, pl .2)
 
     pub new-is : Whole r → fieldAt f′ from (at + 1 - n) ≡ t .a ++ r ++ t .b
     unfolding fieldAt
     new-is wr =
         let pl = places in
         let lt : length (take (at + 1 - n) f) ≡ at + 1 - n = length-take-le (at + 1 - n) f (omega (arith, pl .2)) in
-        let a1 : take from f′ ≡ join (t .a) = ap (take from) e ∙ take-append-le from (take (at + 1 - n) f) _ (omega (arith, lt, pl .0, pl .1)) ∙ take-take from (at + 1 - n) f (omega (arith, pl .0, pl .1)) ∙ before-is in
-        let a2 : drop (at + 1 - n) f′ ≡ join r ++ join (t .b) = ap (drop (at + 1 - n)) e ∙ drop-at (take (at + 1 - n) f) _ (at + 1 - n) lt ∙ ap₂ {C = List ℕ} (λ u v. u ++ v) ew after-is in
-        ap (cut 0) (ap₂ {C = List ℕ} (λ u v. u ++ v) a1 a2 ∙ sym (append-assoc (join (t .a)) (join r) (join (t .b))) ∙ ap (λ (l : List ℕ). l ++ join (t .b)) (sym (join-append (t .a) r)) ∙ sym (join-append (t .a ++ r) (t .b)))
+        let a1 : take from f′ ≡ join (t .a) =
+        ap (take from) e ∙ take-append-le from (take (at + 1 - n) f) _ (omega (arith, lt, pl .0, pl .1))
+        ∙ take-take from (at + 1 - n) f (omega (arith, pl .0, pl .1)) ∙ before-is in
+        let a2 : drop (at + 1 - n) f′ ≡ join r ++ join (t .b) =
+        ap (drop (at + 1 - n)) e ∙ drop-at (take (at + 1 - n) f) _ (at + 1 - n) lt ∙ ap₂ {C = List ℕ} (λ u v. u ++ v) ew after-is in
+        ap (cut 0) (ap₂ {C = List ℕ} (λ u v. u ++ v) a1 a2
+        ∙ sym (append-assoc (join (t .a)) (join r) (join (t .b)))
+        ∙ ap (λ (l : List ℕ). l ++ join (t .b)) (sym (join-append (t .a) r))
+        ∙ sym (join-append (t .a ++ r) (t .b)))
         ∙ join-whole (t .a ++ r ++ t .b) (new-whole wr)

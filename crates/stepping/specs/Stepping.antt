@@ -1,7 +1,7 @@
 -- A step as the code makes it.
 use mathlib.Core.Path.{_≡_}
 use mathlib.Core.List.{List, _∷_, _++_}
-use Prim.Native.Nat.{ℕ, _+_, _*_, _-_, _≤_, _<_}
+use Prim.Native.Nat.{ℕ, _+_, _*_, _-_, _≤_}
 use lib.ListN.{length, take, drop}
 use Rattle.meaning.specs.Elements.{Element, kind, size}
 use Rattle.meaning.specs.Machine.{lead, leading, Step, stuck, onward}

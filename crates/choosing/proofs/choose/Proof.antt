@@ -44,7 +44,8 @@ read-as-requires-2 : tie.Need-read-as-requires-2 Inv-loop μ-loop
 read-as-requires-2 c κs =
     let r = c .before in
     let k = r .before .before .before in
-    sentence-at (k .before .loop .inv .1) (k .kind-at .ensures) (r .before .before .if1 .left) (r .before .seek-kind .ensures) (r .read-as .ensures .next-is) (c .seek-kind2 .ensures) refl .right-side .fits
+    sentence-at (k .before .loop .inv .1) (k .kind-at .ensures) (r .before .before .if1 .left) (r .before .seek-kind .ensures) (r .read-as .ensures .next-is)
+    (c .seek-kind2 .ensures) refl .right-side .fits
 
 sub-match-left : tie.Need-sub-match-left Inv-loop μ-loop
 sub-match-left c =

@@ -10,7 +10,10 @@ pass-requires : tie.Need-pass-requires
 pass-requires c κs = search needs
 
 returns : tie.Need-returns
-returns c = let s = c .before .before .before .before .before .before in (index-other (s .pre .0) (s .pre .1) (c .before .before .before .pass .ensures) (c .if1 .taken), let n = c .before .before .before .pass .ensures .next-is in omega arith)
+returns c =
+    let q = c .before .before .before .pass .ensures in
+    let s = c .before .before .before .before .before .before in
+    (index-other (s .pre .0) (s .pre .1) q (c .if1 .taken), let n = q .next-is in omega arith)
 
 read-as-requires : tie.Need-read-as-requires
 read-as-requires c κs = let s = c .before .before .before .before .before .before in header-fits (s .pre .1) (s .pre .0 .whole) (c .before .before .before .pass .ensures) (c .if1 .left)

@@ -30,7 +30,10 @@ slice-write-indexed : tie.Need-slice-write-indexed Inv-loop μ-loop
 slice-write-indexed c = let k = c .before .before .before .before .loop .inv .0 in omega arith
 
 same-length : tie.Need-same-length Inv-loop μ-loop
-same-length c = let l = c .before .before .before .before in let s = l .before .before .before .before .before in length-set (l .loop .indexed) 0 (l .loop .c .at) ∙ l .loop .inv .0 ∙ sym (s .pre .0 .one)
+same-length c =
+    let l = c .before .before .before .before in
+    let s = l .before .before .before .before .before in
+    length-set (l .loop .indexed) 0 (l .loop .c .at) ∙ l .loop .inv .0 ∙ sym (s .pre .0 .one)
 
 same-length-2 : tie.Need-same-length-2 Inv-loop μ-loop
 same-length-2 c = let l = c .before .before .before .before in let s = l .before .before .before .before .before in l .loop .inv .1 .long ∙ sym (s .pre .0 .table .long)
@@ -51,7 +54,10 @@ slice-write-indexed-2 : tie.Need-slice-write-indexed-2 Inv-loop μ-loop
 slice-write-indexed-2 c = let k = c .before .before .loop .inv .0 in omega arith
 
 same-length-3 : tie.Need-same-length-3 Inv-loop μ-loop
-same-length-3 c = let l = c .before .before in let s = l .before .before .before .before .before in length-set (l .loop .indexed) 0 (l .loop .c .at) ∙ l .loop .inv .0 ∙ sym (s .pre .0 .one)
+same-length-3 c =
+    let l = c .before .before in
+    let s = l .before .before .before .before .before in
+    length-set (l .loop .indexed) 0 (l .loop .c .at) ∙ l .loop .inv .0 ∙ sym (s .pre .0 .one)
 
 same-length-4 : tie.Need-same-length-4 Inv-loop μ-loop
 same-length-4 c = let l = c .before .before in let s = l .before .before .before .before .before in l .loop .inv .1 .long ∙ sym (s .pre .0 .table .long)

@@ -73,8 +73,9 @@ returns-2 c =
     let o = t .before .before .before in
     let s = o .before .before .before .before in
     let e = t .index-to .ensures .0 in
+    let sl = o .slot-of .ensures .0 in
     record {
-      looked = table-some (e .table) (s .args .lo) (s .args .hi) _ (rw (← o .slot-of .ensures .0) refl) (r .before .if1 .left) (r .read-as .ensures) (c .before .is-name .ensures) (c .if2 .taken) _ refl;
+      looked = table-some (e .table) (s .args .lo) (s .args .hi) _ (rw (← sl) refl) (r .before .if1 .left) (r .read-as .ensures) (c .before .is-name .ensures) (c .if2 .taken) _ refl;
       cache = e;
     }
 
