@@ -28,16 +28,39 @@ add-len : tie.Need-add-len Inv-loop μ-loop
 add-len c = search needs
 
 span-of-requires : tie.Need-span-of-requires Inv-loop μ-loop
-span-of-requires c κs = let i = c .before .before .before .loop .inv .2 in let w = walk _ _ _ _ _ (c .before .before .before .before .before .before .pre .0 .fits) (c .before .before .loop-test .taken) (i .whole) (i .ready) _ (ap (λ n. 1 + n) (c .body-of .ensures .0)) in (record { arg = c .before .before .before .loop .inv .0; known = w .known }, c .before .before .before .before .before .before .pre .1 .1 .0)
+span-of-requires c κs =
+    let start = c .before .before .before .before .before .before in
+    let loop = c .before .before .before .loop in
+    let i = loop .inv .2 in
+    let w = walk _ _ _ _ _ (start .pre .0 .fits) (c .before .before .loop-test .taken) (i .whole) (i .ready) _ (ap (λ n. 1 + n) (c .body-of .ensures .0)) in
+    (record { arg = loop .inv .0; known = w .known }, start .pre .1 .1 .0)
 
 sub-if1 : tie.Need-sub-if1 Inv-loop μ-loop
-sub-if1 c = let i = c .before .before .before .before .loop .inv .2 in i .room
+sub-if1 c =
+    let loop = c .before .before .before .before .loop in
+    let i = loop .inv .2 in
+    i .room
 
 returns : tie.Need-returns Inv-loop μ-loop
-returns c = let i = c .before .before .before .before .before .loop .inv .2 in let w = walk _ _ _ _ _ (c .before .before .before .before .before .before .before .before .pre .0 .fits) (c .before .before .before .before .loop-test .taken) (i .whole) (i .ready) _ (ap (λ n. 1 + n) (c .before .before .body-of .ensures .0)) in measured-no _ _ _ _ _ _ _ _ _ _ i _ w (rw (← c .before .span-of .ensures) (c .if1 .taken))
+returns c =
+    let start = c .before .before .before .before .before .before .before .before in
+    let loop = c .before .before .before .before .before .loop in
+    let loop-test = c .before .before .before .before .loop-test in
+    let i = loop .inv .2 in
+    let w = walk _ _ _ _ _ (start .pre .0 .fits) (loop-test .taken) (i .whole) (i .ready) _ (ap (λ n. 1 + n) (c .before .before .body-of .ensures .0)) in
+    measured-no _ _ _ _ _ _ _ _ _ _ i _ w (rw (← c .before .span-of .ensures) (c .if1 .taken))
 
 counted-requires : tie.Need-counted-requires Inv-loop μ-loop
-counted-requires c κs = let i = c .before .before .before .before .before .loop .inv .2 in let k = i .few in let t = c .before .before .before .before .loop-test .taken in let f = c .before .before .before .before .before .before .before .before .pre .0 .fits in let s = c .before .before .before .before .before .before .before .before .pre .1 .1 .1 in omega arith
+counted-requires c κs =
+    let start = c .before .before .before .before .before .before .before .before in
+    let loop = c .before .before .before .before .before .loop in
+    let loop-test = c .before .before .before .before .loop-test in
+    let i = loop .inv .2 in
+    let k = i .few in
+    let t = loop-test .taken in
+    let f = start .pre .0 .fits in
+    let s = start .pre .1 .1 .1 in
+    omega arith
 
 longer-requires : tie.Need-longer-requires Inv-loop μ-loop
 longer-requires c κs = search needs
@@ -46,16 +69,48 @@ add-size : tie.Need-add-size Inv-loop μ-loop
 add-size c = search needs
 
 add-at : tie.Need-add-at Inv-loop μ-loop
-add-at c = let i = c .before .before .before .before .before .before .before .loop .inv .2 in let w = walk _ _ _ _ _ (c .before .before .before .before .before .before .before .before .before .before .pre .0 .fits) (c .before .before .before .before .before .before .loop-test .taken) (i .whole) (i .ready) _ (ap (λ n. 1 + n) (c .before .before .before .before .body-of .ensures .0)) in let k = w .within in omega arith
+add-at c =
+    let start = c .before .before .before .before .before .before .before .before .before .before in
+    let loop = c .before .before .before .before .before .before .before .loop in
+    let loop-test = c .before .before .before .before .before .before .loop-test in
+    let body-of = c .before .before .before .before .body-of in
+    let i = loop .inv .2 in
+    let w = walk _ _ _ _ _ (start .pre .0 .fits) (loop-test .taken) (i .whole) (i .ready) _ (ap (λ n. 1 + n) (body-of .ensures .0)) in
+    let k = w .within in
+    omega arith
 
 loop-less : tie.Need-loop-less Inv-loop μ-loop
-loop-less c = let i = c .before .before .before .before .before .before .before .loop .inv .2 in let w = walk _ _ _ _ _ (c .before .before .before .before .before .before .before .before .before .before .pre .0 .fits) (c .before .before .before .before .before .before .loop-test .taken) (i .whole) (i .ready) _ (ap (λ n. 1 + n) (c .before .before .before .before .body-of .ensures .0)) in let k = w .within in let s = w .some in omega arith
+loop-less c =
+    let start = c .before .before .before .before .before .before .before .before .before .before in
+    let loop = c .before .before .before .before .before .before .before .loop in
+    let loop-test = c .before .before .before .before .before .before .loop-test in
+    let body-of = c .before .before .before .before .body-of in
+    let i = loop .inv .2 in
+    let w = walk _ _ _ _ _ (start .pre .0 .fits) (loop-test .taken) (i .whole) (i .ready) _ (ap (λ n. 1 + n) (body-of .ensures .0)) in
+    let k = w .within in
+    let s = w .some in
+    omega arith
 
 loop-again : tie.Need-loop-again Inv-loop μ-loop
-loop-again c = let i = c .before .before .before .before .before .before .before .loop .inv .2 in let w = walk _ _ _ _ _ (c .before .before .before .before .before .before .before .before .before .before .pre .0 .fits) (c .before .before .before .before .before .before .loop-test .taken) (i .whole) (i .ready) _ (ap (λ n. 1 + n) (c .before .before .before .before .body-of .ensures .0)) in (c .before .before .before .before .before .before .before .loop .inv .0, c .before .before .before .before .before .before .before .loop .inv .1, rw (c .before .before .before .span-of .ensures) (measuring-more _ _ _ _ _ _ _ _ _ _ i _ w _ _ (c .before .counted .ensures) (c .longer .ensures) (rw (← c .before .before .before .span-of .ensures) (c .before .before .if1 .left))))
+loop-again c =
+    let start = c .before .before .before .before .before .before .before .before .before .before in
+    let loop = c .before .before .before .before .before .before .before .loop in
+    let loop-test = c .before .before .before .before .before .before .loop-test in
+    let body-of = c .before .before .before .before .body-of in
+    let span-of = c .before .before .before .span-of in
+    let i = loop .inv .2 in
+    let w = walk _ _ _ _ _ (start .pre .0 .fits) (loop-test .taken) (i .whole) (i .ready) _ (ap (λ n. 1 + n) (body-of .ensures .0)) in (
+      loop .inv .0,
+      loop .inv .1,
+      rw (span-of .ensures)
+          (measuring-more _ _ _ _ _ _ _ _ _ _ i _ w _ _ (c .before .counted .ensures) (c .longer .ensures)
+          (rw (← span-of .ensures) (c .before .before .if1 .left))),
+    )
 
 returns-2 : tie.Need-returns-2 Inv-loop μ-loop
-returns-2 c = measured-all _ _ _ _ _ _ _ _ _ _ (c .before .loop .inv .2) (c .loop-test .left) (c .before .before .before .before .pre .0 .fits)
+returns-2 c =
+    let start = c .before .before .before .before in
+    measured-all _ _ _ _ _ _ _ _ _ _ (c .before .loop .inv .2) (c .loop-test .left) (start .pre .0 .fits)
 
 pub measure-spec : {M : Type 1} → statement M
 measure-spec =

@@ -15,7 +15,10 @@ abbrev μ-loop : tie.MeasureT-loop
 μ-loop program from to binds start calls₀ first i₀ at₀ k₀ calls i at k = to - i
 
 loop-holds : tie.Need-loop-holds Inv-loop μ-loop
-loop-holds c = let g = c .before .before .before .pre .0 in (g .arg, record { upto = g .upto; whole = c .before .before .before .pre .1 .0; ready = g .ready; reach = refl; index = refl; long = refl; so = refl })
+loop-holds c =
+    let start = c .before .before .before in
+    let g = start .pre .0 in
+    (g .arg, record { upto = g .upto; whole = start .pre .1 .0; ready = g .ready; reach = refl; index = refl; long = refl; so = refl })
 
 shared-slice-read-kind : tie.Need-shared-slice-read-kind Inv-loop μ-loop
 shared-slice-read-kind c = search needs
@@ -27,28 +30,79 @@ add-len : tie.Need-add-len Inv-loop μ-loop
 add-len c = search needs
 
 note-one-requires : tie.Need-note-one-requires Inv-loop μ-loop
-note-one-requires c κs = let i = c .before .before .before .before .loop .inv .1 in let w = walk _ _ _ _ _ (c .before .before .before .before .before .before .before .before .pre .0 .fits) (c .before .before .before .loop-test .taken) (i .whole) (i .ready) _ (ap (λ n. 1 + n) (c .before .body-of .ensures .0)) in let q = c .before .before .before .before .before .before .before .before .pre .1 .1 .1 in λ z. note-room _ _ _ _ _ _ _ _ _ _ _ _ i _ w (q .0) (q .1) z (call-span _ _ _ _ _ _ w z)
+note-one-requires c κs =
+    let start = c .before .before .before .before .before .before .before .before in
+    let loop = c .before .before .before .before .loop in
+    let loop-test = c .before .before .before .loop-test in
+    let i = loop .inv .1 in
+    let w = walk _ _ _ _ _ (start .pre .0 .fits) (loop-test .taken) (i .whole) (i .ready) _ (ap (λ n. 1 + n) (c .before .body-of .ensures .0)) in
+    let q = start .pre .1 .1 .1 in
+    λ z. note-room _ _ _ _ _ _ _ _ _ _ _ _ i _ w (q .0) (q .1) z (call-span _ _ _ _ _ _ w z)
 
 span-of-requires : tie.Need-span-of-requires Inv-loop μ-loop
-span-of-requires c κs = let i = c .before .before .before .before .before .before .before .loop .inv .1 in let w = walk _ _ _ _ _ (c .before .before .before .before .before .before .before .before .before .before .before .pre .0 .fits) (c .before .before .before .before .before .before .loop-test .taken) (i .whole) (i .ready) _ (ap (λ n. 1 + n) (c .before .before .before .before .body-of .ensures .0)) in (record { arg = c .before .before .before .before .before .before .before .loop .inv .0; known = w .known }, c .before .before .before .before .before .before .before .before .before .before .before .pre .1 .1 .0 .0)
+span-of-requires c κs =
+    let start = c .before .before .before .before .before .before .before .before .before .before .before in
+    let loop = c .before .before .before .before .before .before .before .loop in
+    let loop-test = c .before .before .before .before .before .before .loop-test in
+    let body-of = c .before .before .before .before .body-of in
+    let i = loop .inv .1 in
+    let w = walk _ _ _ _ _ (start .pre .0 .fits) (loop-test .taken) (i .whole) (i .ready) _ (ap (λ n. 1 + n) (body-of .ensures .0)) in
+    (record { arg = loop .inv .0; known = w .known }, start .pre .1 .1 .0 .0)
 
 add-at : tie.Need-add-at Inv-loop μ-loop
-add-at c = let i = c .before .before .before .before .before .before .before .before .loop .inv .1 in let w = walk _ _ _ _ _ (c .before .before .before .before .before .before .before .before .before .before .before .before .pre .0 .fits) (c .before .before .before .before .before .before .before .loop-test .taken) (i .whole) (i .ready) _ (ap (λ n. 1 + n) (c .before .before .before .before .before .body-of .ensures .0)) in let q = on-room _ _ _ _ _ _ _ _ _ _ _ _ i _ w (c .before .before .before .before .before .before .before .before .before .before .before .before .pre .1 .1 .1 .0) in let e = c .span-of .ensures in omega arith
+add-at c =
+    let start = c .before .before .before .before .before .before .before .before .before .before .before .before in
+    let loop = c .before .before .before .before .before .before .before .before .loop in
+    let loop-test = c .before .before .before .before .before .before .before .loop-test in
+    let body-of = c .before .before .before .before .before .body-of in
+    let i = loop .inv .1 in
+    let w = walk _ _ _ _ _ (start .pre .0 .fits) (loop-test .taken) (i .whole) (i .ready) _ (ap (λ n. 1 + n) (body-of .ensures .0)) in
+    let q = on-room _ _ _ _ _ _ _ _ _ _ _ _ i _ w (start .pre .1 .1 .1 .0) in
+    let e = c .span-of .ensures in
+    omega arith
 
 add-i : tie.Need-add-i Inv-loop μ-loop
-add-i c = let i = c .before .before .before .before .before .before .before .before .loop .inv .1 in let w = walk _ _ _ _ _ (c .before .before .before .before .before .before .before .before .before .before .before .before .pre .0 .fits) (c .before .before .before .before .before .before .before .loop-test .taken) (i .whole) (i .ready) _ (ap (λ n. 1 + n) (c .before .before .before .before .before .body-of .ensures .0)) in let k = w .within in omega arith
+add-i c =
+    let start = c .before .before .before .before .before .before .before .before .before .before .before .before in
+    let loop = c .before .before .before .before .before .before .before .before .loop in
+    let loop-test = c .before .before .before .before .before .before .before .loop-test in
+    let body-of = c .before .before .before .before .before .body-of in
+    let i = loop .inv .1 in
+    let w = walk _ _ _ _ _ (start .pre .0 .fits) (loop-test .taken) (i .whole) (i .ready) _ (ap (λ n. 1 + n) (body-of .ensures .0)) in
+    let k = w .within in
+    omega arith
 
 loop-less : tie.Need-loop-less Inv-loop μ-loop
-loop-less c = let i = c .before .before .before .before .before .before .before .before .loop .inv .1 in let w = walk _ _ _ _ _ (c .before .before .before .before .before .before .before .before .before .before .before .before .pre .0 .fits) (c .before .before .before .before .before .before .before .loop-test .taken) (i .whole) (i .ready) _ (ap (λ n. 1 + n) (c .before .before .before .before .before .body-of .ensures .0)) in let k = w .within in let s = w .some in omega arith
+loop-less c =
+    let start = c .before .before .before .before .before .before .before .before .before .before .before .before in
+    let loop = c .before .before .before .before .before .before .before .before .loop in
+    let loop-test = c .before .before .before .before .before .before .before .loop-test in
+    let body-of = c .before .before .before .before .before .body-of in
+    let i = loop .inv .1 in
+    let w = walk _ _ _ _ _ (start .pre .0 .fits) (loop-test .taken) (i .whole) (i .ready) _ (ap (λ n. 1 + n) (body-of .ensures .0)) in
+    let k = w .within in
+    let s = w .some in
+    omega arith
 
 loop-again : tie.Need-loop-again Inv-loop μ-loop
-loop-again c = let i = c .before .before .before .before .before .before .before .before .loop .inv .1 in let w = walk _ _ _ _ _ (c .before .before .before .before .before .before .before .before .before .before .before .before .pre .0 .fits) (c .before .before .before .before .before .before .before .loop-test .taken) (i .whole) (i .ready) _ (ap (λ n. 1 + n) (c .before .before .before .before .before .body-of .ensures .0)) in let u = c .before .before .before .note-one .ensures in (c .before .before .before .before .before .before .before .before .loop .inv .0, rw (c .span-of .ensures) (noting-more _ _ _ _ _ _ _ _ _ _ _ _ i _ w _ _ (u .0) (u .1)))
+loop-again c =
+    let start = c .before .before .before .before .before .before .before .before .before .before .before .before in
+    let loop = c .before .before .before .before .before .before .before .before .loop in
+    let loop-test = c .before .before .before .before .before .before .before .loop-test in
+    let body-of = c .before .before .before .before .before .body-of in
+    let note-one = c .before .before .before .note-one in
+    let i = loop .inv .1 in
+    let w = walk _ _ _ _ _ (start .pre .0 .fits) (loop-test .taken) (i .whole) (i .ready) _ (ap (λ n. 1 + n) (body-of .ensures .0)) in
+    let u = note-one .ensures in
+    (loop .inv .0, rw (c .span-of .ensures) (noting-more _ _ _ _ _ _ _ _ _ _ _ _ i _ w _ _ (u .0) (u .1)))
 
 same-length : tie.Need-same-length Inv-loop μ-loop
 same-length c = c .before .loop .inv .1 .long
 
 returns : tie.Need-returns Inv-loop μ-loop
-returns c = noted _ _ _ _ _ _ _ _ _ _ _ _ (c .before .loop .inv .1) (c .loop-test .left) (c .before .before .before .before .before .pre .0 .fits)
+returns c =
+    let start = c .before .before .before .before .before in
+    noted _ _ _ _ _ _ _ _ _ _ _ _ (c .before .loop .inv .1) (c .loop-test .left) (start .pre .0 .fits)
 
 pub note-spec : {M : Type 1} → statement M
 note-spec =

@@ -8,16 +8,28 @@ is-call-requires : tie.Need-is-call-requires
 is-call-requires c κs = search needs
 
 cast-calls : tie.Need-cast-calls
-cast-calls c = let k = c .before .before .before .pre (sym (c .before .is-call .ensures) ∙ c .if1 .taken) in let z = k .1 in omega arith
+cast-calls c =
+    let start = c .before .before .before in
+    let k = start .pre (sym (c .before .is-call .ensures) ∙ c .if1 .taken) in
+    let z = k .1 in
+    omega arith
 
 mul-calls : tie.Need-mul-calls
-mul-calls c = let k = c .before .before .before .pre (sym (c .before .is-call .ensures) ∙ c .if1 .taken) .0 in search needs
+mul-calls c =
+    let start = c .before .before .before in
+    let k = start .pre (sym (c .before .is-call .ensures) ∙ c .if1 .taken) .0 in
+    search needs
 
 slice-write-calls : tie.Need-slice-write-calls
-slice-write-calls c = c .before .before .before .pre (sym (c .before .is-call .ensures) ∙ c .if1 .taken) .0
+slice-write-calls c =
+    let start = c .before .before .before in
+    start .pre (sym (c .before .is-call .ensures) ∙ c .if1 .taken) .0
 
 add-result : tie.Need-add-result
-add-result c = let k = c .before .before .before .pre (sym (c .before .is-call .ensures) ∙ c .if1 .taken) .0 in search needs
+add-result c =
+    let start = c .before .before .before in
+    let k = start .pre (sym (c .before .is-call .ensures) ∙ c .if1 .taken) .0 in
+    search needs
 
 same-length : tie.Need-same-length
 same-length c = search needs

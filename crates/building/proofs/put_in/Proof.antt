@@ -35,7 +35,12 @@ same-length : tie.Need-same-length
 same-length c = search needs
 
 returns : tie.Need-returns
-returns c = let p = c .before .before .before .before .before .before .before .before .before .before .before .before .before .before .pre in put-in-all _ _ _ _ _ _ _ (p .0) (p .1) (p .2) (p .3) (p .4) _ _ _ (c .before .before .before .before .before .before .before .before .before .before .shift .ensures) (c .before .before .before .before .before .before .copy .ensures) (c .before .before .copy2 .ensures)
+returns c =
+    let start = c .before .before .before .before .before .before .before .before .before .before .before .before .before .before in
+    let shift = c .before .before .before .before .before .before .before .before .before .before .shift in
+    let copy = c .before .before .before .before .before .before .copy in
+    let p = start .pre in
+    put-in-all _ _ _ _ _ _ _ (p .0) (p .1) (p .2) (p .3) (p .4) _ _ _ (shift .ensures) (copy .ensures) (c .before .before .copy2 .ensures)
 
 pub put-in-spec : {M : Type 1} → statement M
 put-in-spec =

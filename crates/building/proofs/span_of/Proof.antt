@@ -15,7 +15,9 @@ is-variable-requires : tie.Need-is-variable-requires
 is-variable-requires c κs = search needs
 
 returns : tie.Need-returns
-returns c = span-fixed _ _ _ _ _ (c .before .before .before .before .before .pre .0 .known) _ refl (sym (c .before .is-variable .ensures) ∙ not-true _ (c .if1 .taken))
+returns c =
+    let start = c .before .before .before .before .before in
+    span-fixed _ _ _ _ _ (start .pre .0 .known) _ refl (sym (c .before .is-variable .ensures) ∙ not-true _ (c .if1 .taken))
 
 add-slot : tie.Need-add-slot
 add-slot c = search needs

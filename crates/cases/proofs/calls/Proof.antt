@@ -29,12 +29,16 @@ add-i : tie.Need-add-i Inv-loop μ-loop
 add-i c = search needs
 
 loop-less : tie.Need-loop-less Inv-loop μ-loop
-loop-less c = omega (arith, c .before .before .before .before .before .before .before .before .before .before .loop-test .taken)
+loop-less c =
+    let loop-test = c .before .before .before .before .before .before .before .before .before .before .loop-test in
+    omega (arith, loop-test .taken)
 
 loop-again : tie.Need-loop-again Inv-loop μ-loop
 loop-again c =
-    let one = c .before .before .before .before .before .before .before .call .kept in
-    let inv = c .before .before .before .before .before .before .before .before .before .before .before .loop .inv in
+    let loop = c .before .before .before .before .before .before .before .before .before .before .before .loop in
+    let call = c .before .before .before .before .before .before .before .call in
+    let one = call .kept in
+    let inv = loop .inv in
     (one .1 .1 .0 ∙ inv .0, one .1 .1 .1 .0 ∙ inv .1)
 
 same-length : tie.Need-same-length Inv-loop μ-loop

@@ -33,11 +33,15 @@ same-length-2 c = search needs
 
 returns-3 : tie.Need-returns-3
 returns-3 c =
+    let if1′ = c .before .before .before .before .before .before .before .before .if1 in
+    let is-paired′ = c .before .before .before .before .before .before .is-paired in
+    let if3′ = c .before .before .before .before .before .if3 in
+    let brackets-after′ = c .before .before .before .brackets-after in
     let start = c .before .before .before .before .before .before .before .before .before .before in
-    let if1 = c .before .before .before .before .before .before .before .before .if1 in
-    let is-paired = c .before .before .before .before .before .before .is-paired in
-    let if3 = c .before .before .before .before .before .if3 in
-    let brackets-after = c .before .before .before .brackets-after in
+    let if1 = if1′ in
+    let is-paired = is-paired′ in
+    let if3 = if3′ in
+    let brackets-after = brackets-after′ in
     bracket-passed _ (start .pre .0) _ (start .pre .2) (start .pre .3) (⊎-elim (λ w. inl (w .0 .taken, w .2 .left)) (λ w. inr (w .left)) (if1 .came)) _
     (start .pre .1) (granted (is-paired .ensures) (if3 .left)) _ _ _ (brackets-after .ensures .0) (brackets-after .ensures .1) (c .state-after .ensures)
 

@@ -31,12 +31,14 @@ enum-known-e c = search needs
 
 same-length : tie.Need-same-length Inv-loop μ-loop
 same-length c =
-    let loop = c .before .before .before .before .loop in
+    let loop′ = c .before .before .before .before .loop in
+    let loop = loop′ in
     loop .inv .2
 
 returns : tie.Need-returns Inv-loop μ-loop
 returns c =
-    let loop = c .before .before .before .before .loop in
+    let loop′ = c .before .before .before .before .loop in
+    let loop = loop′ in
     (loop .inv .1, loop .inv .3)
 
 kind-of-requires : tie.Need-kind-of-requires Inv-loop μ-loop
@@ -44,18 +46,24 @@ kind-of-requires c κs = search needs
 
 add-state : tie.Need-add-state Inv-loop μ-loop
 add-state c =
+    let limit-of′ = c .before .before .before .before .before .before .before .before .before .before .before .limit-of in
+    let loop′ = c .before .before .before .before .before .before .before .before .before .before .loop in
+    let if1′ = c .before .before .before .before .before .before .before .before .if1 in
     let start = c .before .before .before .before .before .before .before .before .before .before .before .before .before .before in
-    let limit-of = c .before .before .before .before .before .before .before .before .before .before .before .limit-of in
-    let loop = c .before .before .before .before .before .before .before .before .before .before .loop in
-    let if1 = c .before .before .before .before .before .before .before .before .if1 in
+    let limit-of = limit-of′ in
+    let loop = loop′ in
+    let if1 = if1′ in
     omega (arith, few (loop .state) (room-in (loop .state) (loop .inv .0) (start .pre .0) (limit-of .ensures) (if1 .taken)))
 
 pass-bracket-requires : tie.Need-pass-bracket-requires Inv-loop μ-loop
 pass-bracket-requires c κs =
+    let limit-of′ = c .before .before .before .before .before .before .before .before .before .before .before .before .limit-of in
+    let loop′ = c .before .before .before .before .before .before .before .before .before .before .before .loop in
+    let if1′ = c .before .before .before .before .before .before .before .before .before .if1 in
     let start = c .before .before .before .before .before .before .before .before .before .before .before .before .before .before .before in
-    let limit-of = c .before .before .before .before .before .before .before .before .before .before .before .before .limit-of in
-    let loop = c .before .before .before .before .before .before .before .before .before .before .before .loop in
-    let if1 = c .before .before .before .before .before .before .before .before .before .if1 in (
+    let limit-of = limit-of′ in
+    let loop = loop′ in
+    let if1 = if1′ in (
       (room-in (loop .state) (loop .inv .0) (start .pre .0) (limit-of .ensures) (if1 .taken)),
       (ready (loop .inv .3 _ (here _ _ _ _ (start .pre .1) (omega (arith, span-le 3 4 _ (start .pre .0))) (start .pre .2)))),
       omega (arith, c .before .before .if3 .left),
@@ -67,8 +75,10 @@ same-length-2 c = search needs
 
 returns-2 : tie.Need-returns-2 Inv-loop μ-loop
 returns-2 c =
-    let loop = c .before .before .before .before .before .before .before .before .before .before .before .before .before .before .before .before .loop in
-    let pass-bracket = c .before .before .before .before .pass-bracket in
+    let loop′ = c .before .before .before .before .before .before .before .before .before .before .before .before .before .before .before .before .loop in
+    let pass-bracket′ = c .before .before .before .before .pass-bracket in
+    let loop = loop′ in
+    let pass-bracket = pass-bracket′ in
     (loop .inv .1, λ found R. same-stack (loop .inv .3 found R) (pass-bracket .ensures .kept (c .if5 .taken)))
 
 number-of-requires : tie.Need-number-of-requires Inv-loop μ-loop
@@ -76,10 +86,13 @@ number-of-requires c κs = search needs
 
 pass-variable-requires : tie.Need-pass-variable-requires Inv-loop μ-loop
 pass-variable-requires c κs =
+    let limit-of′ = c .before .before .before .before .before .before .before .before .before .before .before .before .before .limit-of in
+    let loop′ = c .before .before .before .before .before .before .before .before .before .before .before .before .loop in
+    let if1′ = c .before .before .before .before .before .before .before .before .before .before .if1 in
     let start = c .before .before .before .before .before .before .before .before .before .before .before .before .before .before .before .before in
-    let limit-of = c .before .before .before .before .before .before .before .before .before .before .before .before .before .limit-of in
-    let loop = c .before .before .before .before .before .before .before .before .before .before .before .before .loop in
-    let if1 = c .before .before .before .before .before .before .before .before .before .before .if1 in (
+    let limit-of = limit-of′ in
+    let loop = loop′ in
+    let if1 = if1′ in (
       (room-in (loop .state) (loop .inv .0) (start .pre .0) (limit-of .ensures) (if1 .taken)),
       omega (arith, c .before .before .if4 .left),
       omega (arith, c .before .if6 .taken),
@@ -87,49 +100,63 @@ pass-variable-requires c κs =
 
 same-length-3 : tie.Need-same-length-3 Inv-loop μ-loop
 same-length-3 c =
-    let loop = c .before .before .before .before .before .before .before .before .before .before .before .before .before .before .before .loop in
+    let loop′ = c .before .before .before .before .before .before .before .before .before .before .before .before .before .before .before .loop in
+    let loop = loop′ in
     loop .inv .2
 
 returns-3 : tie.Need-returns-3 Inv-loop μ-loop
 returns-3 c =
-    let loop = c .before .before .before .before .before .before .before .before .before .before .before .before .before .before .before .loop in
+    let loop′ = c .before .before .before .before .before .before .before .before .before .before .before .before .before .before .before .loop in
+    let loop = loop′ in
     (loop .inv .1, loop .inv .3)
 
 same-length-4 : tie.Need-same-length-4 Inv-loop μ-loop
 same-length-4 c =
-    let loop = c .before .before .before .before .before .before .before .before .loop in
+    let loop′ = c .before .before .before .before .before .before .before .before .loop in
+    let loop = loop′ in
     loop .inv .2
 
 returns-4 : tie.Need-returns-4 Inv-loop μ-loop
 returns-4 c =
-    let loop = c .before .before .before .before .before .before .before .before .loop in
+    let loop′ = c .before .before .before .before .before .before .before .before .loop in
+    let loop = loop′ in
     (loop .inv .1, loop .inv .3)
 
 same-length-5 : tie.Need-same-length-5 Inv-loop μ-loop
 same-length-5 c =
-    let loop = c .before .before .before .before .before .before .before .before .before .before .before .loop in
+    let loop′ = c .before .before .before .before .before .before .before .before .before .before .before .loop in
+    let loop = loop′ in
     loop .inv .2
 
 returns-5 : tie.Need-returns-5 Inv-loop μ-loop
 returns-5 c =
-    let loop = c .before .before .before .before .before .before .before .before .before .before .before .loop in
+    let loop′ = c .before .before .before .before .before .before .before .before .before .before .before .loop in
+    let loop = loop′ in
     (loop .inv .1, loop .inv .3)
 
 loop-less : tie.Need-loop-less Inv-loop μ-loop
 loop-less c =
-    let read = c .before .before .before .before .before .before .before .read in
-    let e = c .before .before .before .before .before .e in
+    let read′ = c .before .before .before .before .before .before .before .read in
+    let e′ = c .before .before .before .before .before .e in
+    let read = read′ in
+    let e = e′ in
     omega (arith, got-on (rw (e .given .1) at (read .ensures)), got-fits (rw (e .given .1) at (read .ensures)))
 
 loop-again : tie.Need-loop-again Inv-loop μ-loop
 loop-again c =
+    let limit-of′ = c .before .before .before .before .before .before .before .before .before .before .before .limit-of in
+    let loop′ = c .before .before .before .before .before .before .before .before .before .before .loop in
+    let if1′ = c .before .before .before .before .before .before .before .before .if1 in
+    let read′ = c .before .before .before .before .before .before .before .read in
+    let e′ = c .before .before .before .before .before .e in
+    let kind-of′ = c .before .before .before .kind-of in
     let start = c .before .before .before .before .before .before .before .before .before .before .before .before .before .before in
-    let limit-of = c .before .before .before .before .before .before .before .before .before .before .before .limit-of in
-    let loop = c .before .before .before .before .before .before .before .before .before .before .loop in
-    let if1 = c .before .before .before .before .before .before .before .before .if1 in
-    let read = c .before .before .before .before .before .before .before .read in
-    let e = c .before .before .before .before .before .e in
-    let kind-of = c .before .before .before .kind-of in (
+    let limit-of = limit-of′ in
+    let loop = loop′ in
+    let if1 = if1′ in
+    let read = read′ in
+    let e = e′ in
+    let kind-of = kind-of′ in (
       loop .inv .0,
       omega (arith, loop .inv .1, got-on (rw (e .given .1) at (read .ensures))),
       loop .inv .2,
@@ -140,19 +167,27 @@ loop-again c =
 
 loop-less-2 : tie.Need-loop-less-2 Inv-loop μ-loop
 loop-less-2 c =
-    let read = c .before .before .before .before .before .before .before .before .before .before .before .before .before .before .read in
-    let e = c .before .before .before .before .before .before .before .before .before .before .before .before .e in
+    let read′ = c .before .before .before .before .before .before .before .before .before .before .before .before .before .before .read in
+    let e′ = c .before .before .before .before .before .before .before .before .before .before .before .before .e in
+    let read = read′ in
+    let e = e′ in
     omega (arith, got-on (rw (e .given .1) at (read .ensures)), got-fits (rw (e .given .1) at (read .ensures)))
 
 loop-again-2 : tie.Need-loop-again-2 Inv-loop μ-loop
 loop-again-2 c =
-    let loop = c .before .before .before .before .before .before .before .before .before .before .before .before .before .before .before .before .before .loop
+    let loop′ = c .before .before .before .before .before .before .before .before .before .before .before .before .before .before .before .before .before .loop
     in
-    let read = c .before .before .before .before .before .before .before .before .before .before .before .before .before .before .read in
-    let e = c .before .before .before .before .before .before .before .before .before .before .before .before .e in
-    let kind-of = c .before .before .before .before .before .before .before .before .before .before .kind-of in
-    let if4 = c .before .before .before .before .before .before .before .if4 in
-    let pass-bracket = c .before .before .before .before .before .pass-bracket in (
+    let read′ = c .before .before .before .before .before .before .before .before .before .before .before .before .before .before .read in
+    let e′ = c .before .before .before .before .before .before .before .before .before .before .before .before .e in
+    let kind-of′ = c .before .before .before .before .before .before .before .before .before .before .kind-of in
+    let if4′ = c .before .before .before .before .before .before .before .if4 in
+    let pass-bracket′ = c .before .before .before .before .before .pass-bracket in
+    let loop = loop′ in
+    let read = read′ in
+    let e = e′ in
+    let kind-of = kind-of′ in
+    let if4 = if4′ in
+    let pass-bracket = pass-bracket′ in (
       pass-bracket .ensures .part ∙ loop .inv .0,
       omega (arith, loop .inv .1, got-on (rw (e .given .1) at (read .ensures))),
       pass-bracket .kept .1 .1 .0 ∙ loop .inv .2,
@@ -162,20 +197,28 @@ loop-again-2 c =
 
 loop-less-3 : tie.Need-loop-less-3 Inv-loop μ-loop
 loop-less-3 c =
-    let read = c .before .before .before .before .before .before .before .before .before .before .before .before .before .read in
-    let e = c .before .before .before .before .before .before .before .before .before .before .before .e in
+    let read′ = c .before .before .before .before .before .before .before .before .before .before .before .before .before .read in
+    let e′ = c .before .before .before .before .before .before .before .before .before .before .before .e in
+    let read = read′ in
+    let e = e′ in
     omega (arith, got-on (rw (e .given .1) at (read .ensures)), got-fits (rw (e .given .1) at (read .ensures)))
 
 loop-again-3 : tie.Need-loop-again-3 Inv-loop μ-loop
 loop-again-3 c =
+    let loop′ = c .before .before .before .before .before .before .before .before .before .before .before .before .before .before .before .before .loop in
+    let read′ = c .before .before .before .before .before .before .before .before .before .before .before .before .before .read in
+    let e′ = c .before .before .before .before .before .before .before .before .before .before .before .e in
+    let kind-of′ = c .before .before .before .before .before .before .before .before .before .kind-of in
+    let number-of′ = c .before .before .before .before .number-of in
+    let pass-variable′ = c .before .before .before .pass-variable in
     let start = c .before .before .before .before .before .before .before .before .before .before .before .before .before .before .before .before .before
     .before .before .before in
-    let loop = c .before .before .before .before .before .before .before .before .before .before .before .before .before .before .before .before .loop in
-    let read = c .before .before .before .before .before .before .before .before .before .before .before .before .before .read in
-    let e = c .before .before .before .before .before .before .before .before .before .before .before .e in
-    let kind-of = c .before .before .before .before .before .before .before .before .before .kind-of in
-    let number-of = c .before .before .before .before .number-of in
-    let pass-variable = c .before .before .before .pass-variable in
+    let loop = loop′ in
+    let read = read′ in
+    let e = e′ in
+    let kind-of = kind-of′ in
+    let number-of = number-of′ in
+    let pass-variable = pass-variable′ in
     let T = pass-variable .ensures _ (ready (loop .inv .3 _ (here _ _ _ _ (start .pre .1) (omega (arith, span-le 3 4 _ (start .pre .0))) (start .pre .2)))) in (
       T .part ∙ loop .inv .0,
       omega (arith, loop .inv .1, got-on (rw (e .given .1) at (read .ensures))),

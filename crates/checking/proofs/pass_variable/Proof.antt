@@ -25,8 +25,9 @@ state-after-requires c κs =
 
 returns-4 : tie.Need-returns-4
 returns-4 c =
+    let if1′ = c .before .before .before .if1 in
     let start = c .before .before .before .before in
-    let if1 = c .before .before .before .if1 in
+    let if1 = if1′ in
     variable-passed _ (start .pre .0) _ _ (start .pre .1) (start .pre .2) (if1 .left) _ (c .before .before .is-fresh .ensures)
     (⊎-elim (λ w. inl (w .0 .taken, w .2 .left, omega arith)) (λ w. inr (w .left)) (c .before .if2 .came)) _ (c .state-after .ensures)
 

@@ -20,7 +20,8 @@ returns-2 c =
     let f = c .before .before .before .before .before .before in
     let s = f .before .before .before .before .before in
     let r = f .first-bad-in-field in
-    checked (s .args .field .now) (s .args .scratch .now) (r .last .1 .0) (f .before .before .if1 .left) (r .ensures) (r .kept .1 .0) (c .before .before .clear .ensures)
+    checked (s .args .field .now) (s .args .scratch .now) (r .last .1 .0) (f .before .before .if1 .left) (r .ensures) (r .kept .1 .0)
+    (c .before .before .clear .ensures)
 
 pub check-field-spec : {M : Type 1} → statement M
 check-field-spec =

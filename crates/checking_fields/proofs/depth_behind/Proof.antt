@@ -55,7 +55,9 @@ same-length : tie.Need-same-length
 same-length c = search needs
 
 returns-4 : tie.Need-returns-4
-returns-4 c = rw (c .enum-told4 .given .1) (turn-open (c .before .before .before .pre))
+returns-4 c =
+    let start = c .before .before .before in
+    rw (c .enum-told4 .given .1) (turn-open (start .pre))
 
 same-length-2 : tie.Need-same-length-2
 same-length-2 c = search needs
@@ -67,7 +69,9 @@ same-length-3 : tie.Need-same-length-3
 same-length-3 c = search needs
 
 returns-6 : tie.Need-returns-6
-returns-6 c = rw (c .enum-told6 .given .1) (turn-call _ (c .before .before .before .pre))
+returns-6 c =
+    let start = c .before .before .before in
+    rw (c .enum-told6 .given .1) (turn-call _ (start .pre))
 
 same-length-4 : tie.Need-same-length-4
 same-length-4 c = search needs

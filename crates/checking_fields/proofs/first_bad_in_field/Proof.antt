@@ -70,34 +70,52 @@ enum-told-2 : tie.Need-enum-told-2 Inv-loop μ-loop
 enum-told-2 c = search needs
 
 same-length-2 : tie.Need-same-length-2 Inv-loop μ-loop
-same-length-2 c = c .before .before .before .loop .inv .1
+same-length-2 c =
+    let loop = c .before .before .before .loop in
+    loop .inv .1
 
 returns-2 : tie.Need-returns-2 Inv-loop μ-loop
-returns-2 c = sym (ap checkOf (bad-kind (c .before .before .before .loop .inv .0) (rw (c .enum-told2 .given .1) at (c .before .before .read .ensures))))
+returns-2 c =
+    let loop = c .before .before .before .loop in
+    sym (ap checkOf (bad-kind (loop .inv .0) (rw (c .enum-told2 .given .1) at (c .before .before .read .ensures))))
 
 enum-told-3 : tie.Need-enum-told-3 Inv-loop μ-loop
 enum-told-3 c = search needs
 
 same-length-3 : tie.Need-same-length-3 Inv-loop μ-loop
-same-length-3 c = c .before .before .before .loop .inv .1
+same-length-3 c =
+    let loop = c .before .before .before .loop in
+    loop .inv .1
 
 returns-3 : tie.Need-returns-3 Inv-loop μ-loop
-returns-3 c = sym (ap checkOf (bad-cut (c .before .before .before .loop .inv .0) (rw (c .enum-told3 .given .1) at (c .before .before .read .ensures))))
+returns-3 c =
+    let loop = c .before .before .before .loop in
+    sym (ap checkOf (bad-cut (loop .inv .0) (rw (c .enum-told3 .given .1) at (c .before .before .read .ensures))))
 
 enum-told-4 : tie.Need-enum-told-4 Inv-loop μ-loop
 enum-told-4 c = search needs
 
 same-length-4 : tie.Need-same-length-4 Inv-loop μ-loop
-same-length-4 c = c .before .before .before .before .loop .inv .1
+same-length-4 c =
+    let loop = c .before .before .before .before .loop in
+    loop .inv .1
 
 returns-4 : tie.Need-returns-4 Inv-loop μ-loop
-returns-4 c = sym (ap checkOf (ended-good (c .before .before .before .before .loop .inv .0) (rw (c .before .enum-told4 .given .1) at (c .before .before .before .read .ensures)) (c .if1 .taken)))
+returns-4 c =
+    let loop = c .before .before .before .before .loop in
+    let read = c .before .before .before .read in
+    sym (ap checkOf (ended-good (loop .inv .0) (rw (c .before .enum-told4 .given .1) at (read .ensures)) (c .if1 .taken)))
 
 same-length-5 : tie.Need-same-length-5 Inv-loop μ-loop
-same-length-5 c = c .before .before .before .before .loop .inv .1
+same-length-5 c =
+    let loop = c .before .before .before .before .loop in
+    loop .inv .1
 
 returns-5 : tie.Need-returns-5 Inv-loop μ-loop
-returns-5 c = sym (ap checkOf (ended-early (c .before .before .before .before .loop .inv .0) (rw (c .before .enum-told4 .given .1) at (c .before .before .before .read .ensures)) (c .if1 .left)))
+returns-5 c =
+    let loop = c .before .before .before .before .loop in
+    let read = c .before .before .before .read in
+    sym (ap checkOf (ended-early (loop .inv .0) (rw (c .before .enum-told4 .given .1) at (read .ensures)) (c .if1 .left)))
 
 pub first-bad-in-field-spec : {M : Type 1} → statement M
 first-bad-in-field-spec =

@@ -15,7 +15,10 @@ abbrev μ-loop : tie.MeasureT-loop
 μ-loop program arg binds₀ c₀ binds c = length program - c .at
 
 loop-holds : tie.Need-loop-holds Inv-loop μ-loop
-loop-holds c = let p = c .before .before .before .pre in (refl, record { upto = p .0 .0; whole = p .1 .0; body = p .1 .1 .0; so = refl })
+loop-holds c =
+    let start = c .before .before .before in
+    let p = start .pre in
+    (refl, record { upto = p .0 .0; whole = p .1 .0; body = p .1 .1 .0; so = refl })
 
 kind-at-requires : tie.Need-kind-at-requires Inv-loop μ-loop
 kind-at-requires c κs = place-in (c .loop .inv .1)
@@ -30,7 +33,9 @@ seek-kind-requires : tie.Need-seek-kind-requires Inv-loop μ-loop
 seek-kind-requires c κs = let i = c .before .before .loop .inv .1 in (i .whole, has-equals i (c .before .kind-at .ensures) (c .if1 .left))
 
 read-as-requires : tie.Need-read-as-requires Inv-loop μ-loop
-read-as-requires c κs = let k = c .before .before in equals-at (k .before .loop .inv .1) (k .kind-at .ensures) (c .before .if1 .left) (c .seek-kind .ensures) refl .fits
+read-as-requires c κs =
+    let k = c .before .before in
+    equals-at (k .before .loop .inv .1) (k .kind-at .ensures) (c .before .if1 .left) (c .seek-kind .ensures) refl .fits
 
 seek-kind-requires-2 : tie.Need-seek-kind-requires-2 Inv-loop μ-loop
 seek-kind-requires-2 c κs =

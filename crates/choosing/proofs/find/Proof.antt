@@ -21,7 +21,9 @@ pass-requires : tie.Need-pass-requires Inv-loop μ-loop
 pass-requires c κs = c .if1 .taken
 
 read-as-requires : tie.Need-read-as-requires Inv-loop μ-loop
-read-as-requires c κs = let t = c .before .before .before in header-fits (t .before .if1 .taken) (t .before .before .before .loop .inv .whole) (t .pass .ensures) (c .if2 .taken)
+read-as-requires c κs =
+    let t = c .before .before .before in
+    header-fits (t .before .if1 .taken) (t .before .before .before .loop .inv .whole) (t .pass .ensures) (c .if2 .taken)
 
 is-name-requires : tie.Need-is-name-requires Inv-loop μ-loop
 unfolding body
@@ -29,24 +31,28 @@ is-name-requires c κs = c .read-as .ensures .small
 
 returns : tie.Need-returns Inv-loop μ-loop
 returns c =
+    let if2 = c .before .before .before .if2 in
     let p = c .before .before .before .before .before .before in
-    named-here (p .before .before .before .loop .inv) (p .before .if1 .taken) (p .pass .ensures) (c .before .before .before .if2 .taken)
-    (c .before .before .read-as .ensures) (c .before .is-name .ensures) (c .if3 .taken) _ refl
+    named-here (p .before .before .before .loop .inv) (p .before .if1 .taken) (p .pass .ensures) (if2 .taken) (c .before .before .read-as .ensures)
+    (c .before .is-name .ensures) (c .if3 .taken) _ refl
 
 loop-less : tie.Need-loop-less Inv-loop μ-loop
 loop-less c = let p = c .before .before .before .before .before .before in let n = p .pass .ensures .next-is in let t = p .before .if1 .taken in omega arith
 
 loop-again : tie.Need-loop-again Inv-loop μ-loop
 loop-again c =
+    let if2 = c .before .before .before .if2 in
     let p = c .before .before .before .before .before .before in
-    named-not (p .before .before .before .loop .inv) (p .before .if1 .taken) (p .pass .ensures) (c .before .before .before .if2 .taken)
-    (c .before .before .read-as .ensures) (c .before .is-name .ensures) (c .if3 .left)
+    named-not (p .before .before .before .loop .inv) (p .before .if1 .taken) (p .pass .ensures) (if2 .taken) (c .before .before .read-as .ensures)
+    (c .before .is-name .ensures) (c .if3 .left)
 
 loop-less-2 : tie.Need-loop-less-2 Inv-loop μ-loop
 loop-less-2 c = let p = c .before .before .before in let n = p .pass .ensures .next-is in let t = p .before .if1 .taken in omega arith
 
 loop-again-2 : tie.Need-loop-again-2 Inv-loop μ-loop
-loop-again-2 c = let p = c .before .before .before in found-other (p .before .before .before .loop .inv) (p .before .if1 .taken) (p .pass .ensures) (c .if2 .left)
+loop-again-2 c =
+    let p = c .before .before .before in
+    found-other (p .before .before .before .loop .inv) (p .before .if1 .taken) (p .pass .ensures) (c .if2 .left)
 
 returns-2 : tie.Need-returns-2 Inv-loop μ-loop
 returns-2 c = found-end (c .before .before .loop .inv) (c .if1 .left)

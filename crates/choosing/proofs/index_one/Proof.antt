@@ -11,12 +11,16 @@ pass-requires c κs = search needs
 
 returns : tie.Need-returns
 returns c =
-    let q = c .before .before .before .pass .ensures in
+    let pass = c .before .before .before .pass in
+    let q = pass .ensures in
     let s = c .before .before .before .before .before .before in
     (index-other (s .pre .0) (s .pre .1) q (c .if1 .taken), let n = q .next-is in omega arith)
 
 read-as-requires : tie.Need-read-as-requires
-read-as-requires c κs = let s = c .before .before .before .before .before .before in header-fits (s .pre .1) (s .pre .0 .whole) (c .before .before .before .pass .ensures) (c .if1 .left)
+read-as-requires c κs =
+    let pass = c .before .before .before .pass in
+    let s = c .before .before .before .before .before .before in
+    header-fits (s .pre .1) (s .pre .0 .whole) (pass .ensures) (c .if1 .left)
 
 cast-slot-of : tie.Need-cast-slot-of
 cast-slot-of c = search needs
@@ -54,19 +58,24 @@ same-length c = search needs
 
 returns-2 : tie.Need-returns-2
 returns-2 c =
+    let slot-of = c .before .before .before .slot-of in
     let s = c .before .before .before .before .before .before .before .before .before .before .before .before in
     let p = c .before .before .before .before .before .before .before .before .before in
     let r = c .before .before .before .before .before in
-    let l = c .before .before .before .slot-of .ensures .0 in
-    (rw l (header-new (s .pre .0) (s .pre .1) (p .pass .ensures) (r .before .if1 .left) (r .read-as .ensures) (rw l at (c .before .if2 .taken))), let n = p .pass .ensures .next-is in omega arith)
+    let l = slot-of .ensures .0 in (
+      rw l (header-new (s .pre .0) (s .pre .1) (p .pass .ensures) (r .before .if1 .left) (r .read-as .ensures) (rw l at (c .before .if2 .taken))),
+      let n = p .pass .ensures .next-is in omega arith,
+    )
 
 returns-3 : tie.Need-returns-3
 returns-3 c =
     let s = c .before .before .before .before .before .before .before .before .before .before .before in
     let p = c .before .before .before .before .before .before .before .before in
     let r = c .before .before .before .before in
-    let l = c .before .before .slot-of .ensures .0 in
-    (header-kept (s .pre .0) (s .pre .1) (p .pass .ensures) (r .before .if1 .left) (r .read-as .ensures) (rw l at (c .if2 .left)), let n = p .pass .ensures .next-is in omega arith)
+    let l = c .before .before .slot-of .ensures .0 in (
+      header-kept (s .pre .0) (s .pre .1) (p .pass .ensures) (r .before .if1 .left) (r .read-as .ensures) (rw l at (c .if2 .left)),
+      let n = p .pass .ensures .next-is in omega arith,
+    )
 
 pub index-one-spec : {M : Type 1} → statement M
 index-one-spec =

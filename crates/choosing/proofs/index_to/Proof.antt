@@ -15,19 +15,33 @@ abbrev μ-loop : tie.MeasureT-loop
 μ-loop program slot indexed₀ spots₀ c₀ indexed spots c = length program - c .at
 
 slice-read-t7 : tie.Need-slice-read-t7 Inv-loop μ-loop
-slice-read-t7 c = let k = c .before .before .before .before .pre .0 .one in omega arith
+slice-read-t7 c =
+    let start = c .before .before .before .before in
+    let k = start .pre .0 .one in
+    omega arith
 
 loop-holds : tie.Need-loop-holds Inv-loop μ-loop
-loop-holds c = let p = c .before .before .before .before .pre .0 in (p .one, p .table)
+loop-holds c =
+    let start = c .before .before .before .before in
+    let p = start .pre .0 in
+    (p .one, p .table)
 
 mul-if2 : tie.Need-mul-if2 Inv-loop μ-loop
 mul-if2 c = search needs
 
 slice-read-if2 : tie.Need-slice-read-if2 Inv-loop μ-loop
-slice-read-if2 c = let l = c .before .before .before .loop .inv .1 .long in let k = c .before .before .before .before .before .before .before .before .pre .1 in omega arith
+slice-read-if2 c =
+    let start = c .before .before .before .before .before .before .before .before in
+    let loop = c .before .before .before .loop in
+    let l = loop .inv .1 .long in
+    let k = start .pre .1 in
+    omega arith
 
 slice-write-indexed : tie.Need-slice-write-indexed Inv-loop μ-loop
-slice-write-indexed c = let k = c .before .before .before .before .loop .inv .0 in omega arith
+slice-write-indexed c =
+    let loop = c .before .before .before .before .loop in
+    let k = loop .inv .0 in
+    omega arith
 
 same-length : tie.Need-same-length Inv-loop μ-loop
 same-length c =
@@ -36,19 +50,34 @@ same-length c =
     length-set (l .loop .indexed) 0 (l .loop .c .at) ∙ l .loop .inv .0 ∙ sym (s .pre .0 .one)
 
 same-length-2 : tie.Need-same-length-2 Inv-loop μ-loop
-same-length-2 c = let l = c .before .before .before .before in let s = l .before .before .before .before .before in l .loop .inv .1 .long ∙ sym (s .pre .0 .table .long)
+same-length-2 c =
+    let l = c .before .before .before .before in
+    let s = l .before .before .before .before .before in
+    l .loop .inv .1 .long ∙ sym (s .pre .0 .table .long)
 
 returns : tie.Need-returns Inv-loop μ-loop
-returns c = let l = c .before .before .before .before .loop in (cache-at _ (l .indexed) _ (l .c .at) (l .inv .0) (l .inv .1), λ z. absurd (c .if2 .taken z))
+returns c =
+    let loop = c .before .before .before .before .loop in
+    let l = loop in
+    (cache-at _ (l .indexed) _ (l .c .at) (l .inv .0) (l .inv .1), λ z. absurd (c .if2 .taken z))
 
 index-one-requires : tie.Need-index-one-requires Inv-loop μ-loop
-index-one-requires c κs = let l = c .before .before .before .before .before in (l .loop .inv .1, c .before .before .before .if1 .taken, l .before .before .before .before .before .pre .2)
+index-one-requires c κs =
+    let if1 = c .before .before .before .if1 in
+    let l = c .before .before .before .before .before in
+    (l .loop .inv .1, if1 .taken, l .before .before .before .before .before .pre .2)
 
 loop-less : tie.Need-loop-less Inv-loop μ-loop
-loop-less c = let k = c .before .before .index-one .ensures .1 in let t = c .before .before .before .before .before .before .if1 .taken in omega arith
+loop-less c =
+    let if1 = c .before .before .before .before .before .before .if1 in
+    let k = c .before .before .index-one .ensures .1 in
+    let t = if1 .taken in
+    omega arith
 
 loop-again : tie.Need-loop-again Inv-loop μ-loop
-loop-again c = (c .before .before .before .before .before .before .before .before .loop .inv .0, c .before .before .index-one .ensures .0)
+loop-again c =
+    let loop = c .before .before .before .before .before .before .before .before .loop in
+    (loop .inv .0, c .before .before .index-one .ensures .0)
 
 slice-write-indexed-2 : tie.Need-slice-write-indexed-2 Inv-loop μ-loop
 slice-write-indexed-2 c = let k = c .before .before .loop .inv .0 in omega arith

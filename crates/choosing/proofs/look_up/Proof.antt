@@ -25,7 +25,9 @@ slice-read-place : tie.Need-slice-read-place
 slice-read-place c = search needs
 
 cast-place : tie.Need-cast-place
-cast-place c = omega (arith, c .slice-known5 .given (c .before .before .before .before .before .before .before .before .slot-of .result))
+cast-place c =
+    let slot-of = c .before .before .before .before .before .before .before .before .slot-of in
+    omega (arith, c .slice-known5 .given (slot-of .result))
 
 same-length : tie.Need-same-length
 same-length c = search needs
@@ -39,7 +41,8 @@ returns c =
     let o = t .before .before .before in
     let s = o .before .before .before .before in
     let e = t .index-to .ensures in
-    record { looked = table-none (e .0 .table) (s .args .lo) (s .args .hi) (rw (← o .slot-of .ensures .0) (c .if1 .taken)) (e .1 (c .if1 .taken)); cache = e .0 }
+    record
+    { looked = table-none (e .0 .table) (s .args .lo) (s .args .hi) (rw (← o .slot-of .ensures .0) (c .if1 .taken)) (e .1 (c .if1 .taken)); cache = e .0 }
 
 sub-t12 : tie.Need-sub-t12
 sub-t12 c =
@@ -75,7 +78,8 @@ returns-2 c =
     let e = t .index-to .ensures .0 in
     let sl = o .slot-of .ensures .0 in
     record {
-      looked = table-some (e .table) (s .args .lo) (s .args .hi) _ (rw (← sl) refl) (r .before .if1 .left) (r .read-as .ensures) (c .before .is-name .ensures) (c .if2 .taken) _ refl;
+      looked = table-some (e .table) (s .args .lo) (s .args .hi) _ (rw (← sl) refl) (r .before .if1 .left) (r .read-as .ensures)
+          (c .before .is-name .ensures) (c .if2 .taken) _ refl;
       cache = e;
     }
 

@@ -22,10 +22,15 @@ pass-requires : tie.Need-pass-requires Inv-loop μ-loop
 pass-requires c κs = seek-in (c .before .before .loop .inv)
 
 loop-less : tie.Need-loop-less Inv-loop μ-loop
-loop-less c = let n = c .before .pass .ensures .next-is in omega (arith, seek-in (c .before .before .before .before .loop .inv))
+loop-less c =
+    let loop = c .before .before .before .before .loop in
+    let n = c .before .pass .ensures .next-is in
+    omega (arith, seek-in (loop .inv))
 
 loop-again : tie.Need-loop-again Inv-loop μ-loop
-loop-again c = let k = c .before .before .before in seek-next (k .before .loop .inv) (λ e. c .before .before .if1 .taken (k .kind-at .ensures ∙ e)) _ (c .before .pass .ensures .next-is)
+loop-again c =
+    let k = c .before .before .before in
+    seek-next (k .before .loop .inv) (λ e. c .before .before .if1 .taken (k .kind-at .ensures ∙ e)) _ (c .before .pass .ensures .next-is)
 
 returns : tie.Need-returns Inv-loop μ-loop
 returns c = seek-here (c .before .before .loop .inv) (sym (c .before .kind-at .ensures) ∙ c .if1 .left)

@@ -31,10 +31,15 @@ enum-known-next : tie.Need-enum-known-next Inv-loop μ-loop
 enum-known-next c = search needs
 
 shared-characters-requires-2 : tie.Need-shared-characters-requires-2 Inv-loop μ-loop
-shared-characters-requires-2 c κs = compare-on _ _ _ _ (c .before .before .before .before .before .loop .inv) (rw (c .before .next .given .1) at (c .before .before .before .shared-end .ensures))
+shared-characters-requires-2 c κs =
+    let loop = c .before .before .before .before .before .loop in
+    let shared-end = c .before .before .before .shared-end in
+    compare-on _ _ _ _ (loop .inv) (rw (c .before .next .given .1) at (shared-end .ensures))
 
 loop-less : tie.Need-loop-less Inv-loop μ-loop
-loop-less c = omega (arith, shared-less _ _ _ _ (rw (c .before .before .next .given .1) at (c .before .before .before .before .shared-end .ensures)), c .shared-characters2 .ensures .1)
+loop-less c =
+    let shared-end = c .before .before .before .before .shared-end in
+    omega (arith, shared-less _ _ _ _ (rw (c .before .before .next .given .1) at (shared-end .ensures)), c .shared-characters2 .ensures .1)
 
 loop-again : tie.Need-loop-again Inv-loop μ-loop
 loop-again c = c .shared-characters2 .ensures .0

@@ -18,9 +18,10 @@ number-of-requires-2 c κs = search needs
 
 returns : tie.Need-returns
 returns c =
+    let kind-of2 = c .before .before .before .kind-of2 in
     let k = c .before .before .before .before in
     let s = k .before in
-    let e = sym (k .kind-of .ensures) ∙ c .before .before .if1 .taken ∙ c .before .before .before .kind-of2 .ensures in
+    let e = sym (k .kind-of .ensures) ∙ c .before .before .if1 .taken ∙ kind-of2 .ensures in
     same-number (s .args .x) (s .args .y) _ _ (s .pre .0) (s .pre .1) e (c .before .number-of .ensures) (c .number-of2 .ensures)
 
 returns-2 : tie.Need-returns-2

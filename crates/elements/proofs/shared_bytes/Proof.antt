@@ -11,7 +11,8 @@ stands-at-requires c κs =
 returns : tie.Need-returns
 returns c =
     let s = c .before .before .before .before in
-    bytes-shared (s .args .a .now) (s .args .b .now) (s .args .at) (s .args .end) (s .pre .0) (s .pre .1) (rw (c .if1 .taken) at (c .before .stands-at .ensures))
+    bytes-shared (s .args .a .now) (s .args .b .now) (s .args .at) (s .args .end) (s .pre .0) (s .pre .1)
+    (rw (c .if1 .taken) at (c .before .stands-at .ensures))
 
 returns-2 : tie.Need-returns-2
 returns-2 c =

@@ -20,13 +20,19 @@ shared-slice-read-if1 : tie.Need-shared-slice-read-if1 Inv-loop μ-loop
 shared-slice-read-if1 c = search needs
 
 returns : tie.Need-returns Inv-loop μ-loop
-returns c = c .before .before .before .loop .inv
+returns c =
+    let loop = c .before .before .before .loop in
+    loop .inv
 
 shared-slice-read-if2 : tie.Need-shared-slice-read-if2 Inv-loop μ-loop
-shared-slice-read-if2 c = omega (arith, c .before .before .before .before .loop .inv .0 .long)
+shared-slice-read-if2 c =
+    let loop = c .before .before .before .before .loop in
+    omega (arith, loop .inv .0 .long)
 
 returns-2 : tie.Need-returns-2 Inv-loop μ-loop
-returns-2 c = c .before .before .before .before .before .loop .inv
+returns-2 c =
+    let loop = c .before .before .before .before .before .loop in
+    loop .inv
 
 add-if3 : tie.Need-add-if3 Inv-loop μ-loop
 add-if3 c = search needs
@@ -47,7 +53,9 @@ shared-slice-read-if3-2 c =
     omega (arith, character-inside _ _ _ (l .before .loop .inv .0) (l .loop-test .taken) (f .if1 .left), l .before .loop .inv .0 .long)
 
 returns-3 : tie.Need-returns-3 Inv-loop μ-loop
-returns-3 c = c .before .before .before .before .before .before .before .before .loop .inv
+returns-3 c =
+    let loop = c .before .before .before .before .before .before .before .before .loop in
+    loop .inv
 
 add-i : tie.Need-add-i Inv-loop μ-loop
 add-i c =
@@ -60,9 +68,10 @@ loop-less c = search needs
 
 loop-again : tie.Need-loop-again Inv-loop μ-loop
 loop-again c =
+    let if2 = c .before .before .before .if2 in
     let f = c .before .before .before .before .before in
     let l = f .before .before in
-    let k = compare-character _ _ _ (l .before .loop .inv .0) (l .loop-test .taken) (f .if1 .left) (c .before .before .before .if2 .left) (c .if3 .left) in
+    let k = compare-character _ _ _ (l .before .loop .inv .0) (l .loop-test .taken) (f .if1 .left) (if2 .left) (c .if3 .left) in
     (k, omega (arith, l .before .loop .inv .1))
 
 returns-4 : tie.Need-returns-4 Inv-loop μ-loop

@@ -74,27 +74,36 @@ returns-3 c =
 
 returns-4 : tie.Need-returns-4
 returns-4 c =
-    let p = c .before .before .before .before .before .before .before .before .before .before .before .before .pre .0 in
+    let start = c .before .before .before .before .before .before .before .before .before .before .before .before in
+    let p = start .pre .0 in
     differ (λ q. not-unknown (proper-too p q) (rw (c .enum-told .given .1) at (c .before .before .read2 .ensures)))
 
 returns-5 : tie.Need-returns-5
 returns-5 c =
-    let p = c .before .before .before .before .before .before .before .before .before .before .before .before .pre .0 in
+    let start = c .before .before .before .before .before .before .before .before .before .before .before .before in
+    let p = start .pre .0 in
     differ (λ q. not-cut (proper-too p q) (rw (c .enum-told2 .given .1) at (c .before .before .read2 .ensures)))
 
 returns-6 : tie.Need-returns-6
 returns-6 c =
-    let p = c .before .before .before .before .before .before .before .before .before .before .before .before .pre .0 in
+    let start = c .before .before .before .before .before .before .before .before .before .before .before .before in
+    let p = start .pre .0 in
     differ (λ q. not-over (proper-too p q) (rw (c .enum-told3 .given .1) at (c .before .before .read2 .ensures)))
 
 returns-7 : tie.Need-returns-7
-returns-7 c = absurd (not-unknown (c .before .before .before .before .before .before .before .before .pre .0) (rw (c .enum-told4 .given .1) at (c .before .before .read .ensures)))
+returns-7 c =
+    let start = c .before .before .before .before .before .before .before .before in
+    absurd (not-unknown (start .pre .0) (rw (c .enum-told4 .given .1) at (c .before .before .read .ensures)))
 
 returns-8 : tie.Need-returns-8
-returns-8 c = absurd (not-cut (c .before .before .before .before .before .before .before .before .pre .0) (rw (c .enum-told5 .given .1) at (c .before .before .read .ensures)))
+returns-8 c =
+    let start = c .before .before .before .before .before .before .before .before in
+    absurd (not-cut (start .pre .0) (rw (c .enum-told5 .given .1) at (c .before .before .read .ensures)))
 
 returns-9 : tie.Need-returns-9
-returns-9 c = absurd (not-over (c .before .before .before .before .before .before .before .before .pre .0) (rw (c .enum-told6 .given .1) at (c .before .before .read .ensures)))
+returns-9 c =
+    let start = c .before .before .before .before .before .before .before .before in
+    absurd (not-over (start .pre .0) (rw (c .enum-told6 .given .1) at (c .before .before .read .ensures)))
 
 pub shared-end-spec : {M : Type 1} → statement M
 shared-end-spec =

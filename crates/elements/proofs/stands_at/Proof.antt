@@ -41,8 +41,9 @@ shared-slice-read-if2-2 c = omega arith
 
 returns-2 : tie.Need-returns-2 Inv-loop μ-loop
 returns-2 c =
+    let loop = c .before .before .before .before .loop in
     let s = c .before .before .before .before .before .before in
-    byte-differs (s .args .x .now) (s .args .i) (s .args .y .now) (s .args .at) (s .args .j - s .args .i) (c .before .before .before .before .loop .k) (omega arith) (c .if2 .taken)
+    byte-differs (s .args .x .now) (s .args .i) (s .args .y .now) (s .args .at) (s .args .j - s .args .i) (loop .k) (omega arith) (c .if2 .taken)
 
 add-k : tie.Need-add-k Inv-loop μ-loop
 add-k c = omega arith
@@ -53,8 +54,10 @@ loop-less c = omega arith
 loop-again : tie.Need-loop-again Inv-loop μ-loop
 loop-again c =
     let l = c .before .before .before .before in
-    let s = l .before .before in
-    (omega arith, byte-more (s .args .x .now) (s .args .i) (s .args .y .now) (s .args .at) (l .loop .k) (omega arith) (omega arith) (l .loop .inv .1) (c .if2 .left))
+    let s = l .before .before in (
+      omega arith,
+      byte-more (s .args .x .now) (s .args .i) (s .args .y .now) (s .args .at) (l .loop .k) (omega arith) (omega arith) (l .loop .inv .1) (c .if2 .left),
+    )
 
 returns-3 : tie.Need-returns-3 Inv-loop μ-loop
 returns-3 c =

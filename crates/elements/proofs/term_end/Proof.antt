@@ -40,7 +40,11 @@ body-of-requires c κs = search needs
 add-t11 : tie.Need-add-t11
 add-t11 c =
     let s = c .before .before .before .before .before .before in
-    omega (arith, symbol-here (s .args .s .now) (s .args .at) (omega arith) (s .pre .balanced) (c .before .if3 .left) (c .before .before .if2 .left) .1 .fits, c .body-of .ensures .0)
+    omega (
+      arith,
+      symbol-here (s .args .s .now) (s .args .at) (omega arith) (s .pre .balanced) (c .before .if3 .left) (c .before .before .if2 .left) .1 .fits,
+      c .body-of .ensures .0,
+    )
 
 returns-4 : tie.Need-returns-4
 returns-4 c =

@@ -22,7 +22,10 @@ part-expand-start-start : tie.Need-part-expand-start-start
 part-expand-start-start c = search needs
 
 part-expand-start-end : tie.Need-part-expand-start-end
-part-expand-start-end c = let w = (rw (c .before .before .n .given .1) at (c .before .before .before .before .before .load .ensures)) in omega (arith, w)
+part-expand-start-end c =
+    let load = c .before .before .before .before .before .load in
+    let w = (rw (c .before .before .n .given .1) at (load .ensures)) in
+    omega (arith, w)
 
 slice-aggregate-expand-start : tie.Need-slice-aggregate-expand-start
 slice-aggregate-expand-start c = search needs

@@ -11,7 +11,9 @@ byte-of-requires-2 : tie.Need-byte-of-requires-2
 byte-of-requires-2 c κs = search needs
 
 returns : tie.Need-returns
-returns c = bracket-begins _ (c .before .before .before .before .args .value .now) (c .before .before .before .before .args .arg .now) refl (c .before .byte-of .ensures) (c .byte-of2 .ensures) refl refl
+returns c =
+    let start = c .before .before .before .before in
+    bracket-begins _ (start .args .value .now) (start .args .arg .now) refl (c .before .byte-of .ensures) (c .byte-of2 .ensures) refl refl
 
 pub before-bracketed-spec : {M : Type 1} → statement M
 before-bracketed-spec = tie.close (tie.spec byte-of-requires byte-of-requires-2 returns)

@@ -12,7 +12,9 @@ between-requires : tie.Need-between-requires
 between-requires c κs = search needs
 
 returns : tie.Need-returns
-returns c = value-last (c .before .before .before .before .before .args .value .now) (c .before .before .before .before .before .args .arg .now) _ (c .before .less .ensures) (c .before .before .if1 .taken) (c .between .ensures)
+returns c =
+    let start = c .before .before .before .before .before in
+    value-last (start .args .value .now) (start .args .arg .now) _ (c .before .less .ensures) (c .before .before .if1 .taken) (c .between .ensures)
 
 between-requires-2 : tie.Need-between-requires-2
 between-requires-2 c κs = search needs
@@ -30,7 +32,11 @@ byte-of-requires-2 : tie.Need-byte-of-requires-2
 byte-of-requires-2 c κs = search needs
 
 returns-3 : tie.Need-returns-3
-returns-3 c = value-begins _ (c .before .before .before .before .before .before .before .args .value .now) (c .before .before .before .before .before .before .before .args .last) (c .before .before .before .before .before .before .before .args .arg .now) (λ q. c .before .byte-of .ensures .known (character-long (c .before .before .before .before .before .before .before .args .value .now) (c .before .before .before .before .before .before .before .pre) (omega arith) q)) (omega arith) refl (c .before .byte-of .ensures) (c .byte-of2 .ensures) refl refl
+returns-3 c =
+    let start = c .before .before .before .before .before .before .before in
+    value-begins _ (start .args .value .now) (start .args .last) (start .args .arg .now)
+    (λ q. c .before .byte-of .ensures .known (character-long (start .args .value .now) (start .pre) (omega arith) q)) (omega arith) refl
+    (c .before .byte-of .ensures) (c .byte-of2 .ensures) refl refl
 
 pub before-value-spec : {M : Type 1} → statement M
 before-value-spec =

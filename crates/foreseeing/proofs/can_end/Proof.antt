@@ -40,7 +40,9 @@ shared-slice-read-if8 : tie.Need-shared-slice-read-if8
 shared-slice-read-if8 c = search needs
 
 cast-if8 : tie.Need-cast-if8
-cast-if8 c = omega (arith, c .shared-slice-known2 .given (c .before .before .before .before .before .before .before .before .before .before .before .before .before .before .args .at + 1))
+cast-if8 c =
+    let start = c .before .before .before .before .before .before .before .before .before .before .before .before .before .before in
+    omega (arith, c .shared-slice-known2 .given (start .args .at + 1))
 
 returns-8 : tie.Need-returns-8
 returns-8 c = may-not (other-second (omega arith) (omega arith) (c .if8 .taken))
@@ -55,10 +57,15 @@ shared-slice-read-result : tie.Need-shared-slice-read-result
 shared-slice-read-result c = search needs
 
 cast-result : tie.Need-cast-result
-cast-result c = omega (arith, c .shared-slice-known3 .given (c .before .before .before .before .before .before .before .before .before .before .before .before .before .before .before .before .before .before .before .args .at + 2))
+cast-result c =
+    let start = c .before .before .before .before .before .before .before .before .before .before .before .before .before .before .before .before .before
+    .before .before in
+    omega (arith, c .shared-slice-known3 .given (start .args .at + 2))
 
 returns-10 : tie.Need-returns-10
-returns-10 c = third-told (c .before .before .before .before .before .before .before .before .before .before .before .before .before .before .if3 .left) (omega arith)
+returns-10 c =
+    let if3 = c .before .before .before .before .before .before .before .before .before .before .before .before .before .before .if3 in
+    third-told (if3 .left) (omega arith)
 
 pub can-end-spec : {M : Type 1} → statement M
 can-end-spec =

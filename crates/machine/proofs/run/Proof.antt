@@ -29,9 +29,12 @@ enum-told c = search needs
 
 run-field-requires : tie.Need-run-field-requires
 run-field-requires c κs =
+    let sizes-fit′ = c .before .before .before .before .before .before .sizes-fit in
+    let if1 = c .before .before .before .before .before .if1 in
+    let check-program = c .before .before .before .before .check-program in
     record {
-      sizes-fit = sym (c .before .before .before .before .before .before .sizes-fit .ensures) ∙ not-false _ (c .before .before .before .before .before .if1 .left);
-      program = check-good (badProgram _) (c .before .before .before .before .check-program .ensures) (c .before .before .enum-told .given .1);
+      sizes-fit = sym (sizes-fit′ .ensures) ∙ not-false _ (if1 .left);
+      program = check-good (badProgram _) (check-program .ensures) (c .before .before .enum-told .given .1);
     }
 
 enum-known-place : tie.Need-enum-known-place
@@ -44,27 +47,38 @@ refusal-requires-2 : tie.Need-refusal-requires-2
 refusal-requires-2 c κs = search needs
 
 same-length-3 : tie.Need-same-length-3
-same-length-3 c = c .before .before .before .before .run-field .kept .1 .0
+same-length-3 c =
+    let run-field = c .before .before .before .before .run-field in
+    run-field .kept .1 .0
 
 same-length-4 : tie.Need-same-length-4
-same-length-4 c = c .before .before .before .before .run-field .kept .1 .1 .1 .0
+same-length-4 c =
+    let run-field = c .before .before .before .before .run-field in
+    run-field .kept .1 .1 .1 .0
 
 returns-2 : tie.Need-returns-2
-returns-2 c = c .before .before .before .before .run-field .ensures
+returns-2 c =
+    let run-field = c .before .before .before .before .run-field in
+    run-field .ensures
 
 same-length-5 : tie.Need-same-length-5
 same-length-5 c = refl
 
 same-length-6 : tie.Need-same-length-6
-same-length-6 c = c .before .before .before .clear .kept .0
+same-length-6 c =
+    let clear = c .before .before .before .clear in
+    clear .kept .0
 
 returns-3 : tie.Need-returns-3
 returns-3 c =
-    let fit = sym (c .before .before .before .before .before .before .before .before .before .before .sizes-fit .ensures) ∙ not-false _ (c .before .before .before .before
-    .before .before .before .before .before .if1 .left) in
-    let bad = check-bad (badProgram _) (c .before .before .before .before .before .before .before .before .check-program .ensures) (c .before .before .before .before
-    .before .before .place .given .1) in
-    bad-program _ _ _ _ _ fit bad _ (c .before .before .before .clear .ensures) (c .refusal2 .ensures)
+    let sizes-fit = c .before .before .before .before .before .before .before .before .before .before .sizes-fit in
+    let if1 = c .before .before .before .before .before .before .before .before .before .if1 in
+    let check-program = c .before .before .before .before .before .before .before .before .check-program in
+    let place = c .before .before .before .before .before .before .place in
+    let clear = c .before .before .before .clear in
+    let fit = sym (sizes-fit .ensures) ∙ not-false _ (if1 .left) in
+    let bad = check-bad (badProgram _) (check-program .ensures) (place .given .1) in
+    bad-program _ _ _ _ _ fit bad _ (clear .ensures) (c .refusal2 .ensures)
 
 pub run-spec : {M : Type 1} → statement M
 run-spec =

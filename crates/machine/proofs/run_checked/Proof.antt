@@ -15,7 +15,11 @@ same-length-2 : tie.Need-same-length-2
 same-length-2 c = search needs
 
 returns : tie.Need-returns
-returns c = let e = c .before .before .before .before .before .run-good .ensures in let n = c .named .ensures (e .1) in rw n (e .0)
+returns c =
+    let run-good = c .before .before .before .before .before .run-good in
+    let e = run-good .ensures in
+    let n = c .named .ensures (e .1) in
+    rw n (e .0)
 
 pub run-checked-spec : {M : Type 1} → statement M
 run-checked-spec =

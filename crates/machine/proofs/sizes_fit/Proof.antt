@@ -12,10 +12,14 @@ returns-3 : tie.Need-returns-3
 returns-3 c = scratch-long _ _ _ _ (c .before .before .if1 .left) (c .before .if2 .left) (c .if3 .taken)
 
 returns-4 : tie.Need-returns-4
-returns-4 c = used-long _ _ _ _ (c .before .before .before .if1 .left) (c .before .before .if2 .left) (c .before .if3 .left) (c .if4 .taken)
+returns-4 c =
+    let if1 = c .before .before .before .if1 in
+    used-long _ _ _ _ (if1 .left) (c .before .before .if2 .left) (c .before .if3 .left) (c .if4 .taken)
 
 returns-5 : tie.Need-returns-5
-returns-5 c = last-size _ _ _ _ (c .before .before .before .if1 .left) (c .before .before .if2 .left) (c .before .if3 .left) (c .if4 .left)
+returns-5 c =
+    let if1 = c .before .before .before .if1 in
+    last-size _ _ _ _ (if1 .left) (c .before .before .if2 .left) (c .before .if3 .left) (c .if4 .left)
 
 pub sizes-fit-spec : {M : Type 1} → statement M
 sizes-fit-spec = tie.close (tie.spec returns returns-2 returns-3 returns-4 returns-5)

@@ -62,40 +62,95 @@ abbrev match-rest-μ-loop : match-rest-lts.MeasureT-loop
 match-rest-μ-loop left i arg at binds₀ settled here₀ place₀ known₀ binds here place known = length left - here
 
 match-rest-loop-holds : (t : ℕ) → match-rest-lts.Need-loop-holds (match-rest-calls t) (match-rest-at t) match-rest.Post match-rest-Inv-loop match-rest-μ-loop
-match-rest-loop-holds t c = going-start (c .before .before .before .pre .1)
+match-rest-loop-holds t c =
+    let start = c .before .before .before in
+    going-start (start .pre .1)
 
 match-rest-pass-requires : (t : ℕ) → match-rest-lts.Need-pass-requires (match-rest-calls t) (match-rest-at t) match-rest.Post match-rest-Inv-loop match-rest-μ-loop
 match-rest-pass-requires t c κs = proper-inside (left-proper (going-left (c .before .loop .inv) (c .loop-test .taken)))
 
 match-rest-slot-at-requires : (t : ℕ) → match-rest-lts.Need-slot-at-requires (match-rest-calls t) (match-rest-at t) match-rest.Post match-rest-Inv-loop match-rest-μ-loop
-match-rest-slot-at-requires t c κs = ((going-left (c .before .before .before .loop .inv) (c .before .before .loop-test .taken)), c .before .pass .ensures .kind-is)
+match-rest-slot-at-requires t c κs =
+    let loop = c .before .before .before .loop in
+    ((going-left (loop .inv) (c .before .before .loop-test .taken)), c .before .pass .ensures .kind-is)
 
 match-rest-is-fresh-e-requires : (t : ℕ) → match-rest-lts.Need-is-fresh-e-requires (match-rest-calls t) (match-rest-at t) match-rest.Post match-rest-Inv-loop match-rest-μ-loop
 match-rest-is-fresh-e-requires t c κs = c .slot-at .ensures .high
 
 match-rest-try-lengths-requires : (t : ℕ) → match-rest-lts.Need-try-lengths-requires (match-rest-calls t) (match-rest-at t) match-rest.Post match-rest-Inv-loop match-rest-μ-loop
-match-rest-try-lengths-requires t c κs = (omega (arith, c .before .before .before .before .before .before .before .before .before .before .before .pre .0, (next-here (going-left (c .before .before .before .before .before .before .before .loop .inv) (c .before .before .before .before .before .before .loop-test .taken)) (c .before .before .before .before .before .pass .ensures) (c .before .before .before .slot-at .ensures)) .on, (c .before .before .before .before .before .before .before .loop .inv) .on, c .before .before .before .before .before .before .loop-test .taken), (fresh-ready (c .before .before .before .before .before .before .before .loop .inv) (next-here (going-left (c .before .before .before .before .before .before .before .loop .inv) (c .before .before .before .before .before .before .loop-test .taken)) (c .before .before .before .before .before .pass .ensures) (c .before .before .before .slot-at .ensures)) (rw (c .before .if1 .taken) at (c .before .before .is-fresh-e .ensures)), (rw (c .before .if1 .taken) at (c .before .before .is-fresh-e .ensures))))
+match-rest-try-lengths-requires t c κs =
+    let start = c .before .before .before .before .before .before .before .before .before .before .before in
+    let loop = c .before .before .before .before .before .before .before .loop in
+    let loop-test = c .before .before .before .before .before .before .loop-test in
+    let pass = c .before .before .before .before .before .pass in
+    let slot-at = c .before .before .before .slot-at in (
+      omega (
+        arith,
+        start .pre .0,
+        (next-here (going-left (loop .inv) (loop-test .taken)) (pass .ensures) (slot-at .ensures)) .on,
+        (loop .inv) .on,
+        loop-test .taken,
+      ),
+      (
+        fresh-ready (loop .inv) (next-here (going-left (loop .inv) (loop-test .taken)) (pass .ensures) (slot-at .ensures))
+            (rw (c .before .if1 .taken) at (c .before .before .is-fresh-e .ensures)),
+        (rw (c .before .if1 .taken) at (c .before .before .is-fresh-e .ensures)),
+      ),
+    )
 
 match-rest-same-length : (t : ℕ) → match-rest-lts.Need-same-length (match-rest-calls t) (match-rest-at t) match-rest.Post match-rest-Inv-loop match-rest-μ-loop
 match-rest-same-length t c = search needs
 
 match-rest-returns : (t : ℕ) → match-rest-lts.Need-returns (match-rest-calls t) (match-rest-at t) match-rest.Post match-rest-Inv-loop match-rest-μ-loop
-match-rest-returns t c = going-ends (c .before .before .before .before .before .before .before .before .before .before .loop .inv) (rw (fresh-seek (c .before .before .before .before .before .before .before .before .before .before .loop .inv) (next-here (going-left (c .before .before .before .before .before .before .before .before .before .before .loop .inv) (c .before .before .before .before .before .before .before .before .before .loop-test .taken)) (c .before .before .before .before .before .before .before .before .pass .ensures) (c .before .before .before .before .before .before .slot-at .ensures)) (rw (c .before .before .before .before .if1 .taken) at (c .before .before .before .before .before .is-fresh-e .ensures))) (c .before .before .try-lengths .ensures))
+match-rest-returns t c =
+    let loop = c .before .before .before .before .before .before .before .before .before .before .loop in
+    let loop-test = c .before .before .before .before .before .before .before .before .before .loop-test in
+    let pass = c .before .before .before .before .before .before .before .before .pass in
+    let slot-at = c .before .before .before .before .before .before .slot-at in
+    let is-fresh-e = c .before .before .before .before .before .is-fresh-e in
+    let if1 = c .before .before .before .before .if1 in
+    going-ends (loop .inv)
+    (rw
+    (fresh-seek (loop .inv) (next-here (going-left (loop .inv) (loop-test .taken)) (pass .ensures) (slot-at .ensures))
+    (rw (if1 .taken) at (is-fresh-e .ensures)))
+    (c .before .before .try-lengths .ensures))
 
 match-rest-only-end-requires : (t : ℕ) → match-rest-lts.Need-only-end-requires (match-rest-calls t) (match-rest-at t) match-rest.Post match-rest-Inv-loop match-rest-μ-loop
-match-rest-only-end-requires t c κs = single-here (c .before .before .before .before .before .before .before .loop .inv) (next-here (going-left (c .before .before .before .before .before .before .before .loop .inv) (c .before .before .before .before .before .before .loop-test .taken)) (c .before .before .before .before .before .pass .ensures) (c .before .before .before .slot-at .ensures)) (rw (c .before .if1 .left) at (c .before .before .is-fresh-e .ensures))
+match-rest-only-end-requires t c κs =
+    let loop = c .before .before .before .before .before .before .before .loop in
+    let loop-test = c .before .before .before .before .before .before .loop-test in
+    let pass = c .before .before .before .before .before .pass in
+    let slot-at = c .before .before .before .slot-at in
+    single-here (loop .inv) (next-here (going-left (loop .inv) (loop-test .taken)) (pass .ensures) (slot-at .ensures))
+    (rw (c .before .if1 .left) at (c .before .before .is-fresh-e .ensures))
 
 match-rest-enum-known-end : (t : ℕ) → match-rest-lts.Need-enum-known-end (match-rest-calls t) (match-rest-at t) match-rest.Post match-rest-Inv-loop match-rest-μ-loop
 match-rest-enum-known-end t c = search needs
 
 match-rest-settle-requires : (t : ℕ) → match-rest-lts.Need-settle-requires (match-rest-calls t) (match-rest-at t) match-rest.Post match-rest-Inv-loop match-rest-μ-loop
-match-rest-settle-requires t c κs = record { long = (c .before .before .before .before .before .before .before .before .before .before .before .before .loop .inv) .ready .table .long; high = c .before .before .before .before .before .before .before .before .slot-at .ensures .high }
+match-rest-settle-requires t c κs =
+    let loop = c .before .before .before .before .before .before .before .before .before .before .before .before .loop in
+    let slot-at = c .before .before .before .before .before .before .before .before .slot-at in
+    record { long = (loop .inv) .ready .table .long; high = slot-at .ensures .high }
 
 match-rest-loop-less : (t : ℕ) → match-rest-lts.Need-loop-less (match-rest-calls t) (match-rest-at t) match-rest.Post match-rest-Inv-loop match-rest-μ-loop
-match-rest-loop-less t c = omega (arith, (next-here (going-left (c .before .before .before .before .before .before .before .before .before .before .before .before .before .before .before .loop .inv) (c .before .before .before .before .before .before .before .before .before .before .before .before .before .before .loop-test .taken)) (c .before .before .before .before .before .before .before .before .before .before .before .before .before .pass .ensures) (c .before .before .before .before .before .before .before .before .before .before .before .slot-at .ensures)) .on, c .before .before .before .before .before .before .before .before .before .before .before .before .before .before .loop-test .taken)
+match-rest-loop-less t c =
+    let loop = c .before .before .before .before .before .before .before .before .before .before .before .before .before .before .before .loop in
+    let loop-test = c .before .before .before .before .before .before .before .before .before .before .before .before .before .before .loop-test in
+    let pass = c .before .before .before .before .before .before .before .before .before .before .before .before .before .pass in
+    let slot-at = c .before .before .before .before .before .before .before .before .before .before .before .slot-at in
+    omega (arith, (next-here (going-left (loop .inv) (loop-test .taken)) (pass .ensures) (slot-at .ensures)) .on, loop-test .taken)
 
 match-rest-loop-again : (t : ℕ) → match-rest-lts.Need-loop-again (match-rest-calls t) (match-rest-at t) match-rest.Post match-rest-Inv-loop match-rest-μ-loop
-match-rest-loop-again t c = going-on (c .before .before .before .before .before .before .before .before .before .before .before .before .before .before .before .loop .inv) (next-here (going-left (c .before .before .before .before .before .before .before .before .before .before .before .before .before .before .before .loop .inv) (c .before .before .before .before .before .before .before .before .before .before .before .before .before .before .loop-test .taken)) (c .before .before .before .before .before .before .before .before .before .before .before .before .before .pass .ensures) (c .before .before .before .before .before .before .before .before .before .before .before .slot-at .ensures)) _ (rw (c .before .before .before .before .before .end .given .1) at (c .before .before .before .before .before .before .before .only-end .ensures)) (c .before .before .settle .ensures)
+match-rest-loop-again t c =
+    let loop = c .before .before .before .before .before .before .before .before .before .before .before .before .before .before .before .loop in
+    let loop-test = c .before .before .before .before .before .before .before .before .before .before .before .before .before .before .loop-test in
+    let pass = c .before .before .before .before .before .before .before .before .before .before .before .before .before .pass in
+    let slot-at = c .before .before .before .before .before .before .before .before .before .before .before .slot-at in
+    let only-end = c .before .before .before .before .before .before .before .only-end in
+    let end = c .before .before .before .before .before .end in
+    going-on (loop .inv) (next-here (going-left (loop .inv) (loop-test .taken)) (pass .ensures) (slot-at .ensures)) _
+    (rw (end .given .1) at (only-end .ensures)) (c .before .before .settle .ensures)
 
 match-rest-enum-told : (t : ℕ) → match-rest-lts.Need-enum-told (match-rest-calls t) (match-rest-at t) match-rest.Post match-rest-Inv-loop match-rest-μ-loop
 match-rest-enum-told t c = search needs
@@ -104,7 +159,15 @@ match-rest-same-length-2 : (t : ℕ) → match-rest-lts.Need-same-length-2 (matc
 match-rest-same-length-2 t c = search needs
 
 match-rest-returns-2 : (t : ℕ) → match-rest-lts.Need-returns-2 (match-rest-calls t) (match-rest-at t) match-rest.Post match-rest-Inv-loop match-rest-μ-loop
-match-rest-returns-2 t c = going-lost (c .before .before .before .before .before .before .before .before .before .before .loop .inv) (going-stuck (c .before .before .before .before .before .before .before .before .before .before .loop .inv) (next-here (going-left (c .before .before .before .before .before .before .before .before .before .before .loop .inv) (c .before .before .before .before .before .before .before .before .before .loop-test .taken)) (c .before .before .before .before .before .before .before .before .pass .ensures) (c .before .before .before .before .before .before .slot-at .ensures)) ((rw (c .enum-told .given .1) at (c .before .before .only-end .ensures)) .ways)) (kept-self _ _)
+match-rest-returns-2 t c =
+    let loop = c .before .before .before .before .before .before .before .before .before .before .loop in
+    let loop-test = c .before .before .before .before .before .before .before .before .before .loop-test in
+    let pass = c .before .before .before .before .before .before .before .before .pass in
+    let slot-at = c .before .before .before .before .before .before .slot-at in
+    going-lost (loop .inv)
+    (going-stuck (loop .inv) (next-here (going-left (loop .inv) (loop-test .taken)) (pass .ensures) (slot-at .ensures))
+    ((rw (c .enum-told .given .1) at (c .before .before .only-end .ensures)) .ways))
+    (kept-self _ _)
 
 match-rest-same-length-3 : (t : ℕ) → match-rest-lts.Need-same-length-3 (match-rest-calls t) (match-rest-at t) match-rest.Post match-rest-Inv-loop match-rest-μ-loop
 match-rest-same-length-3 t c = search needs
@@ -119,19 +182,35 @@ abbrev try-lengths-μ-loop : try-lengths-lts.MeasureT-loop
 try-lengths-μ-loop left j arg at binds₀ settled slot w from₀ binds from = length arg - from
 
 try-lengths-settle-requires : (t : ℕ) → try-lengths-lts.Need-settle-requires (try-lengths-calls t) (try-lengths-at t) try-lengths.Post try-lengths-Inv-loop try-lengths-μ-loop
-try-lengths-settle-requires t c κs = record { long = c .before .before .before .before .before .pre .1 .0 .table .long; high = omega (arith, c .before .before .before .before .before .pre .1 .1 .high) }
+try-lengths-settle-requires t c κs =
+    let start = c .before .before .before .before .before in
+    record { long = start .pre .1 .0 .table .long; high = omega (arith, start .pre .1 .1 .high) }
 
 try-lengths-same-length : (t : ℕ) → try-lengths-lts.Need-same-length (try-lengths-calls t) (try-lengths-at t) try-lengths.Post try-lengths-Inv-loop try-lengths-μ-loop
 try-lengths-same-length t c = search needs
 
 try-lengths-returns : (t : ℕ) → try-lengths-lts.Need-returns (try-lengths-calls t) (try-lengths-at t) try-lengths.Post try-lengths-Inv-loop try-lengths-μ-loop
-try-lengths-returns t c = takes-all (c .before .before .before .before .before .before .before .before .pre .1 .0) (c .before .before .before .before .before .before .before .before .pre .1 .1) (c .before .before .before .before .if1 .taken) (c .before .before .settle .ensures)
+try-lengths-returns t c =
+    let start = c .before .before .before .before .before .before .before .before in
+    let if1 = c .before .before .before .before .if1 in
+    takes-all (start .pre .1 .0) (start .pre .1 .1) (if1 .taken) (c .before .before .settle .ensures)
 
 try-lengths-foresee-requires : (t : ℕ) → try-lengths-lts.Need-foresee-requires (try-lengths-calls t) (try-lengths-at t) try-lengths.Post try-lengths-Inv-loop try-lengths-μ-loop
-try-lengths-foresee-requires t c κs = (record { depth = c .before .before .before .before .before .pre .1 .0 .depth; inside = omega (arith, c .before .before .before .before .before .pre .1 .0 .left-fits, c .before .if1 .left); left-side = c .before .before .before .before .before .pre .1 .0 .left-side }, c .before .before .before .before .before .pre .1 .0, c .before .before .before .before .before .pre .1 .1)
+try-lengths-foresee-requires t c κs =
+    let start = c .before .before .before .before .before in (
+      record {
+        depth = start .pre .1 .0 .depth;
+        inside = omega (arith, start .pre .1 .0 .left-fits, c .before .if1 .left);
+        left-side = start .pre .1 .0 .left-side;
+      },
+      start .pre .1 .0,
+      start .pre .1 .1,
+    )
 
 try-lengths-loop-holds : (t : ℕ) → try-lengths-lts.Need-loop-holds (try-lengths-calls t) (try-lengths-at t) try-lengths.Post try-lengths-Inv-loop try-lengths-μ-loop
-try-lengths-loop-holds t c = trying-start (c .before .before .before .before .before .before .pre .1 .0) (c .before .before .before .before .before .before .pre .1 .1)
+try-lengths-loop-holds t c =
+    let start = c .before .before .before .before .before .before in
+    trying-start (start .pre .1 .0) (start .pre .1 .1)
 
 try-lengths-next-end-requires : (t : ℕ) → try-lengths-lts.Need-next-end-requires (try-lengths-calls t) (try-lengths-at t) try-lengths.Post try-lengths-Inv-loop try-lengths-μ-loop
 try-lengths-next-end-requires t c κs = (trying-level (c .loop .inv), c .before .foresee .ensures .usable)
@@ -146,31 +225,75 @@ try-lengths-same-length-2 : (t : ℕ) → try-lengths-lts.Need-same-length-2 (tr
 try-lengths-same-length-2 t c = search needs
 
 try-lengths-returns-2 : (t : ℕ) → try-lengths-lts.Need-returns-2 (try-lengths-calls t) (try-lengths-at t) try-lengths.Post try-lengths-Inv-loop try-lengths-μ-loop
-try-lengths-returns-2 t c = trying-barred (c .before .before .before .loop .inv) (c .before .before .before .before .foresee .ensures) (rw (c .enum-told .given .1) at (c .before .before .next-end .ensures))
+try-lengths-returns-2 t c =
+    let foresee = c .before .before .before .before .foresee in
+    let loop = c .before .before .before .loop in
+    trying-barred (loop .inv) (foresee .ensures) (rw (c .enum-told .given .1) at (c .before .before .next-end .ensures))
 
 try-lengths-settle-requires-2 : (t : ℕ) → try-lengths-lts.Need-settle-requires-2 (try-lengths-calls t) (try-lengths-at t) try-lengths.Post try-lengths-Inv-loop try-lengths-μ-loop
-try-lengths-settle-requires-2 t c κs = record { long = trying-long (c .before .before .before .before .before .loop .inv); high = omega (arith, c .before .before .before .before .before .before .before .before .before .before .before .before .pre .1 .1 .high) }
+try-lengths-settle-requires-2 t c κs =
+    let start = c .before .before .before .before .before .before .before .before .before .before .before .before in
+    let loop = c .before .before .before .before .before .loop in
+    record { long = trying-long (loop .inv); high = omega (arith, start .pre .1 .1 .high) }
 
 try-lengths-match-rest-requires : (t : ℕ) → try-lengths-lts.Need-match-rest-requires (try-lengths-calls t) (try-lengths-at t) try-lengths.Post try-lengths-Inv-loop try-lengths-μ-loop
-try-lengths-match-rest-requires t c κs = (omega (arith, c .before .before .before .before .before .before .before .before .before .before .before .before .before .before .before .before .pre .0), trying-ready (trying-next (c .before .before .before .before .before .before .before .before .before .loop .inv) (c .before .before .before .before .before .before .before .before .before .before .foresee .ensures) (rw (c .before .before .before .before .before .before .end .given .1) at (c .before .before .before .before .before .before .before .before .next-end .ensures))) (c .before .before .before .settle2 .ensures))
+try-lengths-match-rest-requires t c κs =
+    let start = c .before .before .before .before .before .before .before .before .before .before .before .before .before .before .before .before in
+    let foresee = c .before .before .before .before .before .before .before .before .before .before .foresee in
+    let loop = c .before .before .before .before .before .before .before .before .before .loop in
+    let next-end = c .before .before .before .before .before .before .before .before .next-end in
+    let end = c .before .before .before .before .before .before .end in
+    let settle2 = c .before .before .before .settle2 in
+    (omega (arith, start .pre .0), trying-ready (trying-next (loop .inv) (foresee .ensures) (rw (end .given .1) at (next-end .ensures))) (settle2 .ensures))
 
 try-lengths-same-length-3 : (t : ℕ) → try-lengths-lts.Need-same-length-3 (try-lengths-calls t) (try-lengths-at t) try-lengths.Post try-lengths-Inv-loop try-lengths-μ-loop
 try-lengths-same-length-3 t c = search needs
 
 try-lengths-returns-3 : (t : ℕ) → try-lengths-lts.Need-returns-3 (try-lengths-calls t) (try-lengths-at t) try-lengths.Post try-lengths-Inv-loop try-lengths-μ-loop
-try-lengths-returns-3 t c = trying-found (trying-next (c .before .before .before .before .before .before .before .before .before .before .before .before .before .loop .inv) (c .before .before .before .before .before .before .before .before .before .before .before .before .before .before .foresee .ensures) (rw (c .before .before .before .before .before .before .before .before .before .before .end .given .1) at (c .before .before .before .before .before .before .before .before .before .before .before .before .next-end .ensures))) (c .before .before .before .before .before .before .before .settle2 .ensures) (rw (c .if2 .taken) at (c .before .before .before .match-rest .ensures))
+try-lengths-returns-3 t c =
+    let foresee = c .before .before .before .before .before .before .before .before .before .before .before .before .before .before .foresee in
+    let loop = c .before .before .before .before .before .before .before .before .before .before .before .before .before .loop in
+    let next-end = c .before .before .before .before .before .before .before .before .before .before .before .before .next-end in
+    let end = c .before .before .before .before .before .before .before .before .before .before .end in
+    let settle2 = c .before .before .before .before .before .before .before .settle2 in
+    let match-rest = c .before .before .before .match-rest in
+    trying-found (trying-next (loop .inv) (foresee .ensures) (rw (end .given .1) at (next-end .ensures))) (settle2 .ensures)
+    (rw (c .if2 .taken) at (match-rest .ensures))
 
 try-lengths-term-end-requires : (t : ℕ) → try-lengths-lts.Need-term-end-requires (try-lengths-calls t) (try-lengths-at t) try-lengths.Post try-lengths-Inv-loop try-lengths-μ-loop
-try-lengths-term-end-requires t c κs = trying-level (trying-next (c .before .before .before .before .before .before .before .before .before .before .before .before .before .loop .inv) (c .before .before .before .before .before .before .before .before .before .before .before .before .before .before .foresee .ensures) (rw (c .before .before .before .before .before .before .before .before .before .before .end .given .1) at (c .before .before .before .before .before .before .before .before .before .before .before .before .next-end .ensures)))
+try-lengths-term-end-requires t c κs =
+    let foresee = c .before .before .before .before .before .before .before .before .before .before .before .before .before .before .foresee in
+    let loop = c .before .before .before .before .before .before .before .before .before .before .before .before .before .loop in
+    let next-end = c .before .before .before .before .before .before .before .before .before .before .before .before .next-end in
+    let end = c .before .before .before .before .before .before .before .before .before .before .end in
+    trying-level (trying-next (loop .inv) (foresee .ensures) (rw (end .given .1) at (next-end .ensures)))
 
 try-lengths-enum-known-next : (t : ℕ) → try-lengths-lts.Need-enum-known-next (try-lengths-calls t) (try-lengths-at t) try-lengths.Post try-lengths-Inv-loop try-lengths-μ-loop
 try-lengths-enum-known-next t c = search needs
 
 try-lengths-loop-less : (t : ℕ) → try-lengths-lts.Need-loop-less (try-lengths-calls t) (try-lengths-at t) try-lengths.Post try-lengths-Inv-loop try-lengths-μ-loop
-try-lengths-loop-less t c = omega (arith, skipped-on (rw (c .before .before .before .before .before .before .before .before .before .before .before .before .before .before .end .given .1) at (c .before .before .before .before .before .before .before .before .before .before .before .before .before .before .before .before .next-end .ensures)), term-less (rw (c .before .next .given .1) at (c .before .before .before .term-end .ensures)))
+try-lengths-loop-less t c =
+    let next-end = c .before .before .before .before .before .before .before .before .before .before .before .before .before .before .before .before .next-end
+    in
+    let end = c .before .before .before .before .before .before .before .before .before .before .before .before .before .before .end in
+    let term-end = c .before .before .before .term-end in
+    omega (arith, skipped-on (rw (end .given .1) at (next-end .ensures)), term-less (rw (c .before .next .given .1) at (term-end .ensures)))
 
 try-lengths-loop-again : (t : ℕ) → try-lengths-lts.Need-loop-again (try-lengths-calls t) (try-lengths-at t) try-lengths.Post try-lengths-Inv-loop try-lengths-μ-loop
-try-lengths-loop-again t c = trying-on (trying-next (c .before .before .before .before .before .before .before .before .before .before .before .before .before .before .before .before .before .loop .inv) (c .before .before .before .before .before .before .before .before .before .before .before .before .before .before .before .before .before .before .foresee .ensures) (rw (c .before .before .before .before .before .before .before .before .before .before .before .before .before .before .end .given .1) at (c .before .before .before .before .before .before .before .before .before .before .before .before .before .before .before .before .next-end .ensures))) (c .before .before .before .before .before .before .before .before .before .before .before .settle2 .ensures) _ (rw (c .before .before .before .before .if2 .left) at (c .before .before .before .before .before .before .before .match-rest .ensures)) (rw (c .before .next .given .1) at (c .before .before .before .term-end .ensures))
+try-lengths-loop-again t c =
+    let foresee = c .before .before .before .before .before .before .before .before .before .before .before .before .before .before .before .before .before
+    .before .foresee in
+    let loop = c .before .before .before .before .before .before .before .before .before .before .before .before .before .before .before .before .before .loop
+    in
+    let next-end = c .before .before .before .before .before .before .before .before .before .before .before .before .before .before .before .before .next-end
+    in
+    let end = c .before .before .before .before .before .before .before .before .before .before .before .before .before .before .end in
+    let settle2 = c .before .before .before .before .before .before .before .before .before .before .before .settle2 in
+    let match-rest = c .before .before .before .before .before .before .before .match-rest in
+    let if2 = c .before .before .before .before .if2 in
+    let term-end = c .before .before .before .term-end in
+    trying-on (trying-next (loop .inv) (foresee .ensures) (rw (end .given .1) at (next-end .ensures))) (settle2 .ensures) _
+    (rw (if2 .left) at (match-rest .ensures)) (rw (c .before .next .given .1) at (term-end .ensures))
 
 try-lengths-enum-told-2 : (t : ℕ) → try-lengths-lts.Need-enum-told-2 (try-lengths-calls t) (try-lengths-at t) try-lengths.Post try-lengths-Inv-loop try-lengths-μ-loop
 try-lengths-enum-told-2 t c = search needs
@@ -179,7 +302,17 @@ try-lengths-same-length-4 : (t : ℕ) → try-lengths-lts.Need-same-length-4 (tr
 try-lengths-same-length-4 t c = search needs
 
 try-lengths-returns-4 : (t : ℕ) → try-lengths-lts.Need-returns-4 (try-lengths-calls t) (try-lengths-at t) try-lengths.Post try-lengths-Inv-loop try-lengths-μ-loop
-try-lengths-returns-4 t c = trying-over (trying-next (c .before .before .before .before .before .before .before .before .before .before .before .before .before .before .before .before .loop .inv) (c .before .before .before .before .before .before .before .before .before .before .before .before .before .before .before .before .before .foresee .ensures) (rw (c .before .before .before .before .before .before .before .before .before .before .before .before .before .end .given .1) at (c .before .before .before .before .before .before .before .before .before .before .before .before .before .before .before .next-end .ensures))) (c .before .before .before .before .before .before .before .before .before .before .settle2 .ensures) (rw (c .before .before .before .if2 .left) at (c .before .before .before .before .before .before .match-rest .ensures)) (rw (c .enum-told2 .given .1) at (c .before .before .term-end .ensures))
+try-lengths-returns-4 t c =
+    let foresee = c .before .before .before .before .before .before .before .before .before .before .before .before .before .before .before .before .before
+    .foresee in
+    let loop = c .before .before .before .before .before .before .before .before .before .before .before .before .before .before .before .before .loop in
+    let next-end = c .before .before .before .before .before .before .before .before .before .before .before .before .before .before .before .next-end in
+    let end = c .before .before .before .before .before .before .before .before .before .before .before .before .before .end in
+    let settle2 = c .before .before .before .before .before .before .before .before .before .before .settle2 in
+    let match-rest = c .before .before .before .before .before .before .match-rest in
+    let if2 = c .before .before .before .if2 in
+    trying-over (trying-next (loop .inv) (foresee .ensures) (rw (end .given .1) at (next-end .ensures))) (settle2 .ensures)
+    (rw (if2 .left) at (match-rest .ensures)) (rw (c .enum-told2 .given .1) at (c .before .before .term-end .ensures))
 
 pub +match-rest+try-lengths-spec : {M : Type 1} → statement M
 +match-rest+try-lengths-spec = close μ-match-rest μ-try-lengths (λ t. match-rest-lts.spec (match-rest-calls t)

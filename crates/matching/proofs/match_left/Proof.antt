@@ -4,7 +4,9 @@ use Rattle.matching.proofs.match_left.Statement.{statement}
 use Rattle.matching.proofs.match_left.Tie as tie
 
 match-rest-requires : tie.Need-match-rest-requires
-match-rest-requires c κs = starting (c .before .before .before .before .pre)
+match-rest-requires c κs =
+    let start = c .before .before .before .before in
+    starting (start .pre)
 
 same-length : tie.Need-same-length
 same-length c = search needs

@@ -21,8 +21,9 @@ same-length c = search needs
 
 returns : tie.Need-returns
 returns c =
+    let move-down = c .before .before .before .before .before .before .move-down in
     let start = c .before .before .before .before .before .before .before .before .before in
-    let moved = c .before .before .before .before .before .before .move-down in
+    let moved = move-down in
     (refl, closed _ (moved .last .0) _ _ (start .pre .0) (start .pre .1) (moved .ensures) (c .before .before .clear .ensures))
 
 pub close-spec : {M : Type 1} → statement M

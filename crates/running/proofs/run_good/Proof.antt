@@ -38,7 +38,11 @@ slice-aggregate-run-noting-3 : tie.Need-slice-aggregate-run-noting-3
 slice-aggregate-run-noting-3 c = search needs
 
 run-noting-requires-3 : tie.Need-run-noting-requires-3
-run-noting-requires-3 c κs = let pre = c .before .before .before .before .before .before .before .before .pre in let l = two-sizes _ _ _ _ (pre .sizes-fit) .1 in (pre, omega arith)
+run-noting-requires-3 c κs =
+    let start = c .before .before .before .before .before .before .before .before in
+    let pre = start .pre in
+    let l = two-sizes _ _ _ _ (pre .sizes-fit) .1 in
+    (pre, omega arith)
 
 same-length-5 : tie.Need-same-length-5
 same-length-5 c = search needs

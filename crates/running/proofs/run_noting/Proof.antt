@@ -16,11 +16,16 @@ slice-aggregate-steps-from-3 c = search needs
 
 steps-from-requires : tie.Need-steps-from-requires
 steps-from-requires c κs =
-    let pre = c .before .before .before .before .before .before .before .before .before
-    .before .pre in let ok = ready _ _ _ _ (pre .0) in (ok, (pre .1, (search needs, empty-cache _ (ok .program))))
+    let start = c .before .before .before .before .before .before .before .before .before .before in
+    let pre = start .pre in
+    let ok = ready _ _ _ _ (pre .0) in
+    (ok, (pre .1, (search needs, empty-cache _ (ok .program))))
 
 close-requires : tie.Need-close-requires
-close-requires c κs = let e = c .before .before .before .before .before .before .before .before .before .before .steps-from .ensures in (e .gap, e .fits)
+close-requires c κs =
+    let steps-from = c .before .before .before .before .before .before .before .before .before .before .steps-from in
+    let e = steps-from .ensures in
+    (e .gap, e .fits)
 
 clear-requires : tie.Need-clear-requires
 clear-requires c κs = search needs
@@ -36,11 +41,15 @@ same-length-3 c = search needs
 
 returns : tie.Need-returns
 returns c =
-    let e = c .before .before .before .before .before .before .before .before .before .before .before .before .before .before .before .before .before .steps-from in
-    let shut = c .before .before .before .before .before .before .close .ensures in (
-      ended _ _ _ _ _ (e .last .1 .0) (e .last .1 .1 .1 .0) (c .before .before .before .before .before .before .before .before .before .before .before .before .before
-          .before .before .before .before .before .before .before .before .before .before .before .before .before .before
-          .before .pre .0) (e .ensures) (e .kept .1 .0) (e .kept .1 .1 .1 .0) (shut .0) (shut .1) (c .before .before .clear .ensures),
+    let start = c .before .before .before .before .before .before .before .before .before .before .before .before .before .before .before .before .before
+    .before .before .before .before .before .before .before .before .before .before .before in
+    let steps-from = c .before .before .before .before .before .before .before .before .before .before .before .before .before .before .before .before .before
+    .steps-from in
+    let close = c .before .before .before .before .before .before .close in
+    let e = steps-from in
+    let shut = close .ensures in (
+      ended _ _ _ _ _ (e .last .1 .0) (e .last .1 .1 .1 .0) (start .pre .0) (e .ensures) (e .kept .1 .0) (e .kept .1 .1 .1 .0) (shut .0) (shut .1)
+          (c .before .before .clear .ensures),
       e .ensures .small,
     )
 

@@ -25,11 +25,14 @@ abbrev μ-loop : tie.MeasureT-loop
     budget - steps
 
 begin-requires : tie.Need-begin-requires Inv-loop μ-loop
-begin-requires c κs = c .before .before .before .before .before .before .before .before .pre .0 .fits
+begin-requires c κs =
+    let start = c .before .before .before .before .before .before .before .before in
+    start .pre .0 .fits
 
 loop-holds : tie.Need-loop-holds Inv-loop μ-loop
 loop-holds c =
-    let pre = c .before .before .before .before .before .before .before .before .before .before .before .pre in
+    let start = c .before .before .before .before .before .before .before .before .before .before .before in
+    let pre = start .pre in
     (refl, refl, refl, refl, refl, refl, pre .1 .1 .1, between-start _ _ _ _ _ _ _ _ _ (pre .0) refl (c .before .before .begin .ensures) refl)
 
 advance-requires : tie.Need-advance-requires Inv-loop μ-loop
@@ -53,7 +56,9 @@ same-length c =
     turn .advance .kept .0 ∙ turn .before .before .before .loop .inv .0 ∙ turn .before .before .before .before .before .before .begin .kept .0
 
 same-length-2 : tie.Need-same-length-2 Inv-loop μ-loop
-same-length-2 c = c .before .before .before .before .before .before .before .before .before .before .before .loop .inv .1
+same-length-2 c =
+    let loop = c .before .before .before .before .before .before .before .before .before .before .before .loop in
+    loop .inv .1
 
 same-length-3 : tie.Need-same-length-3 Inv-loop μ-loop
 same-length-3 c =
@@ -61,13 +66,19 @@ same-length-3 c =
     turn .advance .kept .1 .1 .0 ∙ turn .before .before .before .loop .inv .2
 
 same-length-4 : tie.Need-same-length-4 Inv-loop μ-loop
-same-length-4 c = c .before .before .before .before .before .before .before .before .before .before .before .loop .inv .3
+same-length-4 c =
+    let loop = c .before .before .before .before .before .before .before .before .before .before .before .loop in
+    loop .inv .3
 
 same-length-5 : tie.Need-same-length-5 Inv-loop μ-loop
-same-length-5 c = c .before .before .before .before .before .before .before .before .before .before .before .loop .inv .4
+same-length-5 c =
+    let loop = c .before .before .before .before .before .before .before .before .before .before .before .loop in
+    loop .inv .4
 
 same-length-6 : tie.Need-same-length-6 Inv-loop μ-loop
-same-length-6 c = c .before .before .before .before .before .before .before .before .before .before .before .loop .inv .5
+same-length-6 c =
+    let loop = c .before .before .before .before .before .before .before .before .before .before .before .loop in
+    loop .inv .5
 
 returns : tie.Need-returns Inv-loop μ-loop
 returns c =
@@ -86,7 +97,9 @@ same-length-7 c =
     turn .advance .kept .0 ∙ turn .before .before .before .loop .inv .0 ∙ turn .before .before .before .before .before .before .begin .kept .0
 
 same-length-8 : tie.Need-same-length-8 Inv-loop μ-loop
-same-length-8 c = c .before .before .before .before .before .before .before .before .before .before .before .before .loop .inv .1
+same-length-8 c =
+    let loop = c .before .before .before .before .before .before .before .before .before .before .before .before .loop in
+    loop .inv .1
 
 same-length-9 : tie.Need-same-length-9 Inv-loop μ-loop
 same-length-9 c =
@@ -94,13 +107,19 @@ same-length-9 c =
     turn .advance .kept .1 .1 .0 ∙ turn .before .before .before .loop .inv .2
 
 same-length-10 : tie.Need-same-length-10 Inv-loop μ-loop
-same-length-10 c = c .before .before .before .before .before .before .before .before .before .before .before .before .loop .inv .3
+same-length-10 c =
+    let loop = c .before .before .before .before .before .before .before .before .before .before .before .before .loop in
+    loop .inv .3
 
 same-length-11 : tie.Need-same-length-11 Inv-loop μ-loop
-same-length-11 c = c .before .before .before .before .before .before .before .before .before .before .before .before .loop .inv .4
+same-length-11 c =
+    let loop = c .before .before .before .before .before .before .before .before .before .before .before .before .loop in
+    loop .inv .4
 
 same-length-12 : tie.Need-same-length-12 Inv-loop μ-loop
-same-length-12 c = c .before .before .before .before .before .before .before .before .before .before .before .before .loop .inv .5
+same-length-12 c =
+    let loop = c .before .before .before .before .before .before .before .before .before .before .before .before .loop in
+    loop .inv .5
 
 returns-2 : tie.Need-returns-2 Inv-loop μ-loop
 returns-2 c =
@@ -113,16 +132,21 @@ returns-2 c =
 
 gather-requires : tie.Need-gather-requires Inv-loop μ-loop
 gather-requires c κs =
-    let v = c .before .before .before .before .before .before .before .before .before .before .advance .ensures in
-    let z = not-false _ (c .before .before .before .if1 .left) in
+    let advance = c .before .before .before .before .before .before .before .before .before .before .advance in
+    let if1 = c .before .before .before .if1 in
+    let v = advance .ensures in
+    let z = not-false _ (if1 .left) in
     (v .good, (v .next .yes z, v .shuts z))
 
 step-at-requires : tie.Need-step-at-requires Inv-loop μ-loop
 step-at-requires c κs =
-    let got = c .before .before .before .before .before .before .before .before .gather in
-    let turn = c .before .before .before .before .before .before .before .before .before .before .before .before .before .before .before .before .before .before .before .advance in
-    let head = c .before .before .before .before .before .before .before .before .before .before .before .before .before .before .before .before .before .before .before
-    .before .before .before in
+    let advance = c .before .before .before .before .before .before .before .before .before .before .before .before .before .before .before .before .before
+    .before .before .advance in
+    let gather = c .before .before .before .before .before .before .before .before .gather in
+    let got = gather in
+    let turn = advance in
+    let head = c .before .before .before .before .before .before .before .before .before .before .before .before .before .before .before .before .before .before
+    .before .before .before .before in
     let inv = head .loop .inv in
     let first = head .before .before .before in
     let pre = first .before .before .before .before .before .before .before .before .before .pre in
@@ -139,13 +163,15 @@ step-at-requires c κs =
     let s = k .field-short in
     let t = k .scratch-long in
     let n = pre .1 .0 in
-    let m = pre .1 .1 .0 in
-    ((k .program-short, k .functions, k .program), (inv .6, (g .0, (record { read = _; depth = _; under = g .3 }, (omega arith, omega arith, omega arith, omega arith)))))
+    let m = pre .1 .1 .0 in (
+      (k .program-short, k .functions, k .program),
+      (inv .6, (g .0, (record { read = _; depth = _; under = g .3 }, (omega arith, omega arith, omega arith, omega arith)))),
+    )
 
 add-halted : tie.Need-add-halted Inv-loop μ-loop
 add-halted c =
-    let got = c .before .before .before .before .before .before .before .before .before .before .before .before .before .before .before .before .before .before .before
-    .before .before .before .before in
+    let got = c .before .before .before .before .before .before .before .before .before .before .before .before .before .before .before .before .before .before
+    .before .before .before .before .before in
     let turn = got .before .before .before .before .before .before .before .before .before .before .before in
     let head = turn .before .before .before in
     let first = head .before .before .before in
@@ -178,42 +204,42 @@ same-length-14 : tie.Need-same-length-14 Inv-loop μ-loop
 same-length-14 c =
     let step = c .before .before .before .before .before .before .before .before .before .before .before .before .before .before .before in
     let a = step .step-at .kept .1 .1 .1 .1 .1 .0 in
-    let b = step .before .before .before .before .before .before .before .before .before .before .before .before .before .before .before .before .before .before .before
-    .before .before .before .before .loop .inv .1 in
+    let b = step .before .before .before .before .before .before .before .before .before .before .before .before .before .before .before .before .before .before
+    .before .before .before .before .before .loop .inv .1 in
     omega arith
 
 same-length-15 : tie.Need-same-length-15 Inv-loop μ-loop
 same-length-15 c =
     let step = c .before .before .before .before .before .before .before .before .before .before .before .before .before .before .before in
     let a = step .step-at .kept .1 .1 .1 .1 .1 .1 .1 .1 .1 .0 in
-    let b = step .before .before .before .before .before .before .before .before .before .before .before .before .before .before .before .before .before .before .before
-    .before .advance .kept .1 .1 .0 in
-    let d = step .before .before .before .before .before .before .before .before .before .before .before .before .before .before .before .before .before .before .before
-    .before .before .before .before .loop .inv .2 in
+    let b = step .before .before .before .before .before .before .before .before .before .before .before .before .before .before .before .before .before .before
+    .before .before .advance .kept .1 .1 .0 in
+    let d = step .before .before .before .before .before .before .before .before .before .before .before .before .before .before .before .before .before .before
+    .before .before .before .before .before .loop .inv .2 in
     omega arith
 
 same-length-16 : tie.Need-same-length-16 Inv-loop μ-loop
 same-length-16 c =
     let step = c .before .before .before .before .before .before .before .before .before .before .before .before .before .before .before in
     let a = step .step-at .kept .1 .1 .1 .1 .1 .1 .0 in
-    let b = step .before .before .before .before .before .before .before .before .before .before .before .before .before .before .before .before .before .before .before
-    .before .before .before .before .loop .inv .3 in
+    let b = step .before .before .before .before .before .before .before .before .before .before .before .before .before .before .before .before .before .before
+    .before .before .before .before .before .loop .inv .3 in
     omega arith
 
 same-length-17 : tie.Need-same-length-17 Inv-loop μ-loop
 same-length-17 c =
     let step = c .before .before .before .before .before .before .before .before .before .before .before .before .before .before .before in
     let a = step .step-at .kept .1 .1 .1 .1 .1 .1 .1 .0 in
-    let b = step .before .before .before .before .before .before .before .before .before .before .before .before .before .before .before .before .before .before .before
-    .before .before .before .before .loop .inv .4 in
+    let b = step .before .before .before .before .before .before .before .before .before .before .before .before .before .before .before .before .before .before
+    .before .before .before .before .before .loop .inv .4 in
     omega arith
 
 same-length-18 : tie.Need-same-length-18 Inv-loop μ-loop
 same-length-18 c =
     let step = c .before .before .before .before .before .before .before .before .before .before .before .before .before .before .before in
     let a = step .step-at .kept .1 .1 .1 .1 .1 .1 .1 .1 .0 in
-    let b = step .before .before .before .before .before .before .before .before .before .before .before .before .before .before .before .before .before .before .before
-    .before .before .before .before .loop .inv .5 in
+    let b = step .before .before .before .before .before .before .before .before .before .before .before .before .before .before .before .before .before .before
+    .before .before .before .before .before .loop .inv .5 in
     omega arith
 
 returns-3 : tie.Need-returns-3 Inv-loop μ-loop
@@ -225,19 +251,21 @@ returns-3 c =
     let head = turn .before .before .before in
     let first = head .before .before .before in
     halted-as (same-run _ _ _ _ _ (first .before .before .before .before .before .before .before .before .before .pre .0 .fits) (first .begin .ensures))
-    (stuck-from _ _ _ _ _ _ _ _ _ _ _ _ (head .loop .inv .7) _ _ _ _ _ _ _ _ _ (turn .advance .ensures) (not-false _ (got .before .before .before .before .if1 .left)) (got
-    .before .before .before .if2 .left) _ _ _ (lead .0) (lead .1)
-    (got .gather .kept .0 ∙ turn .advance .kept .0 ∙ head .loop .inv .0) _ _ _ _ _ (step .step-at .ensures .0 _ _ (lead .3)) (c .before .if3 .taken) (c .halted3 .ensures))
+    (stuck-from _ _ _ _ _ _ _ _ _ _ _ _ (head .loop .inv .7) _ _ _ _ _ _ _ _ _ (turn .advance .ensures)
+    (not-false _ (got .before .before .before .before .if1 .left)) (got .before .before .before .if2 .left) _ _ _ (lead .0) (lead .1)
+    (got .gather .kept .0 ∙ turn .advance .kept .0 ∙ head .loop .inv .0) _ _ _ _ _ (step .step-at .ensures .0 _ _ (lead .3)) (c .before .if3 .taken)
+    (c .halted3 .ensures))
 
 sub-s : tie.Need-sub-s Inv-loop μ-loop
 sub-s c =
-    c .before .before .before .before .before .before .before .before .before .before .before .before .before .before .before .before .before .before .before .before
-    .before .before .before .before .gather .ensures .2
+    let gather = c .before .before .before .before .before .before .before .before .before .before .before .before .before .before .before .before .before
+    .before .before .before .before .before .before .before .gather in
+    gather .ensures .2
 
 add-steps : tie.Need-add-steps Inv-loop μ-loop
 add-steps c =
-    let got = c .before .before .before .before .before .before .before .before .before .before .before .before .before .before .before .before .before .before .before
-    .before .before .before .before .before in
+    let got = c .before .before .before .before .before .before .before .before .before .before .before .before .before .before .before .before .before .before
+    .before .before .before .before .before .before in
     let head = got .before .before .before .before .before .before .before .before .before .before .before .before .before .before in
     let b = head .before .before .before .before .before .before .before .before .before .before .before .before .fits .budget in
     let l = head .loop .inv .7 .left in
@@ -246,8 +274,8 @@ add-steps c =
 
 loop-less : tie.Need-loop-less Inv-loop μ-loop
 loop-less c =
-    let got = c .before .before .before .before .before .before .before .before .before .before .before .before .before .before .before .before .before .before .before
-    .before .before .before .before .before in
+    let got = c .before .before .before .before .before .before .before .before .before .before .before .before .before .before .before .before .before .before
+    .before .before .before .before .before .before in
     let l = got .before .before .before .before .before .before .before .before .before .before .before .before .before .before .loop .inv .7 .left in
     let n = got .before .before .before .if2 .left in
     omega arith
@@ -283,10 +311,9 @@ loop-again c =
       omega arith,
       omega arith,
       step .step-at .ensures .1,
-      next-from _ _ _ _ _ _ _ _ _ _ _ _ (inv .7) _ _ _ _ _ _ _ _ _ (turn .advance .ensures) (not-false _ (got .before .before .before .before .if1 .left)) (got .before
-          .before .before .if2 .left) _ _ _ (lead .0) (lead .1) (omega arith)
-          _ _ _ _ _ (step .step-at .ensures .0 _ _ (lead .3)) (head .before .before .before .before .before .before .before .before .before .before .before
-          .before .pre .0 .functions) (c .before .if3 .left),
+      next-from _ _ _ _ _ _ _ _ _ _ _ _ (inv .7) _ _ _ _ _ _ _ _ _ (turn .advance .ensures) (not-false _ (got .before .before .before .before .if1 .left))
+          (got .before .before .before .if2 .left) _ _ _ (lead .0) (lead .1) (omega arith) _ _ _ _ _ (step .step-at .ensures .0 _ _ (lead .3))
+          (head .before .before .before .before .before .before .before .before .before .before .before .before .pre .0 .functions) (c .before .if3 .left),
     )
 
 pub steps-from-spec : {M : Type 1} → statement M

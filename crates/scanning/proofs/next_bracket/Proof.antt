@@ -43,7 +43,8 @@ loop-again c =
     let f = c .before .before in
     let p = f .before .before .before .before in
     let k = p .pass .ensures .kind-is in
-    let n = seek-next _ _ _ (p .before .before .before .loop .inv) (p .before .if1 .taken) (λ z. f .before .before .if2 .left (k ∙ z)) (λ z. f .if3 .left (k ∙ z)) _ refl in
+    let n = seek-next _ _ _ (p .before .before .before .loop .inv) (p .before .if1 .taken) (λ z. f .before .before .if2 .left (k ∙ z))
+    (λ z. f .if3 .left (k ∙ z)) _ refl in
     seek-on (omega arith) (rw (← p .pass .ensures .next-is) at n) (c .past-characters .ensures)
 
 returns-3 : tie.Need-returns-3 Inv-loop μ-loop

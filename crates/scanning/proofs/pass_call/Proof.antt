@@ -12,7 +12,9 @@ sub-n : tie.Need-sub-n
 sub-n c = search needs
 
 move-down-requires : tie.Need-move-down-requires
-move-down-requires c κs = may-move _ _ _ _ _ _ _ _ (c .before .before .before .before .pre .0) (c .before .before .before .before .pre .1 .1 .0) (c .before .before .before .before .pre .1 .1 .1)
+move-down-requires c κs =
+    let start = c .before .before .before .before in
+    may-move _ _ _ _ _ _ _ _ (start .pre .0) (start .pre .1 .1 .0) (start .pre .1 .1 .1)
 
 add-calls : tie.Need-add-calls
 add-calls c = search needs
@@ -21,13 +23,18 @@ sub-calls : tie.Need-sub-calls
 sub-calls c = search needs
 
 cast-calls : tie.Need-cast-calls
-cast-calls c = let k = may-note _ _ _ _ _ _ _ _ (c .before .before .before .before .before .before .before .before .pre .0) (c .before .before .before .before .before .before .before .before .pre .1 .1 .0) (c .before .before .before .before .before .before .before .before .pre .1 .1 .1) (c .before .before .before .before .before .before .before .before .pre .1 .0 .0) in omega arith
+cast-calls c =
+    let start = c .before .before .before .before .before .before .before .before in
+    let k = may-note _ _ _ _ _ _ _ _ (start .pre .0) (start .pre .1 .1 .0) (start .pre .1 .1 .1) (start .pre .1 .0 .0) in
+    omega arith
 
 mul-calls : tie.Need-mul-calls
 mul-calls c = search needs
 
 slice-write-calls : tie.Need-slice-write-calls
-slice-write-calls c = in-notes _ _ _ _ _ _ _ _ (c .before .before .before .before .before .before .before .before .pre .0) (c .before .before .before .before .before .before .before .before .pre .1 .1 .0) (c .before .before .before .before .before .before .before .before .pre .1 .1 .1)
+slice-write-calls c =
+    let start = c .before .before .before .before .before .before .before .before in
+    in-notes _ _ _ _ _ _ _ _ (start .pre .0) (start .pre .1 .1 .0) (start .pre .1 .1 .1)
 
 add-s : tie.Need-add-s
 add-s c = search needs
@@ -45,8 +52,18 @@ same-length-2 : tie.Need-same-length-2
 same-length-2 c = search needs
 
 returns : tie.Need-returns
-returns c = let g = c .before .before .before .before .before .before .before .before .before .before .pre .0 in let r = c .before .before .before .before .before .before .before .before .before .before .pre .1 .1 .0 in let k = c .before .before .before .before .before .before .before .before .before .before .pre .1 .1 .1 in let e = c .before .before .before .before .before .move-down .ensures in
-    (open-good _ _ _ _ _ _ _ _ g r k _ _ e refl, open-same _ _ _ _ _ _ _ _ g r k _ _ e refl, open-more _ _ _ _ _ _ _ _ g r k _ _ e refl, open-standing _ _ _ _ _ _ _ _ g r k _ _ e refl)
+returns c =
+    let start = c .before .before .before .before .before .before .before .before .before .before in
+    let move-down = c .before .before .before .before .before .move-down in
+    let g = start .pre .0 in
+    let r = start .pre .1 .1 .0 in
+    let k = start .pre .1 .1 .1 in
+    let e = move-down .ensures in (
+      open-good _ _ _ _ _ _ _ _ g r k _ _ e refl,
+      open-same _ _ _ _ _ _ _ _ g r k _ _ e refl,
+      open-more _ _ _ _ _ _ _ _ g r k _ _ e refl,
+      open-standing _ _ _ _ _ _ _ _ g r k _ _ e refl,
+    )
 
 pub pass-call-spec : {M : Type 1} → statement M
 pass-call-spec =

@@ -13,10 +13,14 @@ add-t9 : tie.Need-add-t9
 add-t9 c = search needs
 
 returns : tie.Need-returns
-returns c = part-there (c .before .before .before .before .pre .0) (c .before .before .before .before .args .arg .now) (c .before .before .before .before .args .at) (c .before .before .before .before .pre .1) (rw (c .if1 .taken) at (c .before .stands-at .ensures))
+returns c =
+    let start = c .before .before .before .before in
+    part-there (start .pre .0) (start .args .arg .now) (start .args .at) (start .pre .1) (rw (c .if1 .taken) at (c .before .stands-at .ensures))
 
 returns-2 : tie.Need-returns-2
-returns-2 c = part-elsewhere (c .before .before .before .before .pre .0) (c .before .before .before .before .args .arg .now) (c .before .before .before .before .args .at) (c .before .before .before .before .pre .1) (rw (c .if1 .left) at (c .before .stands-at .ensures))
+returns-2 c =
+    let start = c .before .before .before .before in
+    part-elsewhere (start .pre .0) (start .args .arg .now) (start .args .at) (start .pre .1) (rw (c .if1 .left) at (c .before .stands-at .ensures))
 
 pub element-end-spec : {M : Type 1} → statement M
 element-end-spec = tie.close (tie.spec stands-at-requires sub-t8 add-t9 returns returns-2)

@@ -14,7 +14,9 @@ has-requires : tie.Need-has-requires
 has-requires c κs = search needs
 
 returns-3 : tie.Need-returns-3
-returns-3 c = fresh-told (c .before .before .before .args .slot) (c .before .before .before .args .settled) (c .has .ensures) (omega arith) (omega arith)
+returns-3 c =
+    let start = c .before .before .before in
+    fresh-told (start .args .slot) (start .args .settled) (c .has .ensures) (omega arith) (omega arith)
 
 pub is-fresh-e-spec : {M : Type 1} → statement M
 is-fresh-e-spec = tie.close (tie.spec returns returns-2 has-requires returns-3)

@@ -19,7 +19,9 @@ mul-binds : tie.Need-mul-binds
 mul-binds c = search needs
 
 slice-write-binds : tie.Need-slice-write-binds
-slice-write-binds c = omega (arith, c .before .before .before .before .pre .long)
+slice-write-binds c =
+    let start = c .before .before .before .before in
+    omega (arith, start .pre .long)
 
 add-binds : tie.Need-add-binds
 add-binds c = search needs
@@ -28,7 +30,9 @@ mul-binds-2 : tie.Need-mul-binds-2
 mul-binds-2 c = search needs
 
 slice-write-binds-2 : tie.Need-slice-write-binds-2
-slice-write-binds-2 c = simp length-set (omega (arith, c .before .before .before .before .pre .long))
+slice-write-binds-2 c =
+    let start = c .before .before .before .before in
+    simp length-set (omega (arith, start .pre .long))
 
 with-requires : tie.Need-with-requires
 with-requires c κs = search needs

@@ -9,7 +9,9 @@ sub-if1 : tie.Need-sub-if1
 sub-if1 c = search needs
 
 returns : tie.Need-returns
-returns c = value-long _ _ _ (c .before .before .before .pre .0) (c .before .before .before .pre .1) (c .if1 .taken)
+returns c =
+    let start = c .before .before .before in
+    value-long _ _ _ (start .pre .0) (start .pre .1) (c .if1 .taken)
 
 add-end : tie.Need-add-end
 add-end c = search needs
@@ -27,10 +29,14 @@ equal-values-requires : tie.Need-equal-values-requires
 equal-values-requires c κs = search needs
 
 returns-2 : tie.Need-returns-2
-returns-2 c = value-there _ _ _ (c .before .before .before .before .before .before .pre .0) (c .before .before .before .before .before .before .pre .1) _ refl (omega arith) (rw (c .if2 .taken) at (c .before .equal-values .ensures))
+returns-2 c =
+    let start = c .before .before .before .before .before .before in
+    value-there _ _ _ (start .pre .0) (start .pre .1) _ refl (omega arith) (rw (c .if2 .taken) at (c .before .equal-values .ensures))
 
 returns-3 : tie.Need-returns-3
-returns-3 c = value-elsewhere _ _ _ (c .before .before .before .before .before .before .pre .0) (c .before .before .before .before .before .before .pre .1) _ refl (rw (c .if2 .left) at (c .before .equal-values .ensures))
+returns-3 c =
+    let start = c .before .before .before .before .before .before in
+    value-elsewhere _ _ _ (start .pre .0) (start .pre .1) _ refl (rw (c .if2 .left) at (c .before .equal-values .ensures))
 
 pub value-end-spec : {M : Type 1} → statement M
 value-end-spec =

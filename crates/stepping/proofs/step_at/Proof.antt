@@ -7,30 +7,37 @@ use Rattle.stepping.proofs.step_at.Tie as tie
 
 add-lo : tie.Need-add-lo
 add-lo c =
-    let p = c .before .before .before .before .before .before .before .pre in
+    let start = c .before .before .before .before .before .before .before in
+    let p = start .pre in
     let (a, i, e) = places (p .1 .1 .0) (p .1 .1 .1 .0 .under .term) in
     omega (arith, p .1 .1 .1 .1 .0)
 
 slice-read-lo : tie.Need-slice-read-lo
 slice-read-lo c =
-    let p = c .before .before .before .before .before .before .before .before .pre in
+    let start = c .before .before .before .before .before .before .before .before in
+    let p = start .pre in
     let (a, i, e) = places (p .1 .1 .0) (p .1 .1 .1 .0 .under .term) in
     omega arith
 
 add-high : tie.Need-add-high
 add-high c =
-    let p = c .before .before .before .before .before .before .before .before .pre in
+    let start = c .before .before .before .before .before .before .before .before in
+    let p = start .pre in
     let (a, i, e) = places (p .1 .1 .0) (p .1 .1 .1 .0 .under .term) in
     omega (arith, p .1 .1 .1 .1 .0)
 
 slice-read-high : tie.Need-slice-read-high
 slice-read-high c =
-    let p = c .before .before .before .before .before .before .before .before .before .pre in
+    let start = c .before .before .before .before .before .before .before .before .before in
+    let p = start .pre in
     let (a, i, e) = places (p .1 .1 .0) (p .1 .1 .1 .0 .under .term) in
     omega arith
 
 look-up-requires : tie.Need-look-up-requires
-look-up-requires c κs = let p = c .before .before .before .before .before .before .before .before .before .before .before .pre in (p .0 .2, (p .0 .0, p .1 .0))
+look-up-requires c κs =
+    let start = c .before .before .before .before .before .before .before .before .before .before .before in
+    let p = start .pre in
+    (p .0 .2, (p .0 .0, p .1 .0))
 
 enum-known-body : tie.Need-enum-known-body
 enum-known-body c = search needs

@@ -8,7 +8,8 @@ use Rattle.stepping.proofs.step_in.Tie as tie
 
 sub-choose : tie.Need-sub-choose
 sub-choose c =
-    let p = c .before .before .before .before .before .pre in
+    let start = c .before .before .before .before .before in
+    let p = start .pre in
     places (p .1 .1 .0) (p .1 .1 .1 .0 .under .term) .1
 
 part-choose-start : tie.Need-part-choose-start
@@ -16,12 +17,14 @@ part-choose-start c = search needs
 
 part-choose-end : tie.Need-part-choose-end
 part-choose-end c =
-    let p = c .before .before .before .before .before .before .pre in
+    let start = c .before .before .before .before .before .before in
+    let p = start .pre in
     omega (arith, places (p .1 .1 .0) (p .1 .1 .1 .0 .under .term) .2)
 
 choose-requires : tie.Need-choose-requires
 choose-requires c κs =
-    let p = c .before .before .before .before .before .before .before .before .pre in
+    let start = c .before .before .before .before .before .before .before .before in
+    let p = start .pre in
     let k = place _ _ _ (p .1 .0) in
     ((k .upto, p .0 .0), (k .whole, (k .body, (arg-balanced (p .1 .1 .0) (p .1 .1 .1 .0 .under .term), p .1 .1 .1 .1 .3))))
 
@@ -39,13 +42,15 @@ returns c =
 
 add-measure : tie.Need-add-measure
 add-measure c =
-    let p = c .before .before .before .before .before .before .before .before .before .before .before .before .before .before .pre in
+    let start = c .before .before .before .before .before .before .before .before .before .before .before .before .before .before in
+    let p = start .pre in
     let (a, i, e) = places (p .1 .1 .0) (p .1 .1 .1 .0 .under .term) in
     omega (arith, p .1 .1 .1 .1 .0)
 
 sub-measure : tie.Need-sub-measure
 sub-measure c =
-    let p = c .before .before .before .before .before .before .before .before .before .before .before .before .before .before .pre in
+    let start = c .before .before .before .before .before .before .before .before .before .before .before .before .before .before in
+    let p = start .pre in
     let (a, i, e) = places (p .1 .1 .0) (p .1 .1 .1 .0 .under .term) in
     omega arith
 
@@ -59,8 +64,10 @@ measure-requires c κs =
     let u = p .1 .1 .1 .0 .under in
     let h = p .1 .1 .1 .1 in
     let k = s .choose .kept .1 .1 .1 .0 in
-    let n = h .3 in
-    (in-given g u l (s .choose .ensures) (not-false _ (f .if1 .left)) (h .0), (sd g u l (s .choose .ensures) (not-false _ (f .if1 .left)) .whole, (omega arith, p .0 .0)))
+    let n = h .3 in (
+      in-given g u l (s .choose .ensures) (not-false _ (f .if1 .left)) (h .0),
+      (sd g u l (s .choose .ensures) (not-false _ (f .if1 .left)) .whole, (omega arith, p .0 .0)),
+    )
 
 same-length-3 : tie.Need-same-length-3
 same-length-3 c = search needs
@@ -146,8 +153,10 @@ note-requires c κs =
     let q = s .choose .kept .1 .1 .1 .0 in
     let n = h .3 in
     let i = u .inside in
-    let o = h .0 in
-    (in-given g u l (s .choose .ensures) (not-false _ (f .if1 .left)) (h .0), (sd g u l (s .choose .ensures) (not-false _ (f .if1 .left)) .whole, ((omega arith, p .0 .0), (omega arith, omega arith))))
+    let o = h .0 in (
+      in-given g u l (s .choose .ensures) (not-false _ (f .if1 .left)) (h .0),
+      (sd g u l (s .choose .ensures) (not-false _ (f .if1 .left)) .whole, ((omega arith, p .0 .0), (omega arith, omega arith))),
+    )
 
 same-length-5 : tie.Need-same-length-5
 same-length-5 c = search needs
@@ -163,6 +172,7 @@ same-length-8 c = search needs
 
 returns-3 : tie.Need-returns-3
 returns-3 c =
+    let place = c .before .before .before .before .before .before .before .before .before .before .before .place in
     let m = c .before .before .before .before .before .before .before .before .before .before .before .before .before .before .before .before .before in
     let f = m .before .before in
     let s = f .before .before .before .before in
@@ -172,7 +182,7 @@ returns-3 c =
     let h = p .1 .1 .1 .1 in
     let w = c .before .before .before .before .before .before .before .before .before .before .before .before .before .before .before in
     λ read depth u. in-done g u l (s .choose .ensures) (not-false _ (f .if1 .left)) (m .measure .ensures) (not-false _ (w .if2 .left)) (p .0 .1) (h .1)
-    (c .before .before .before .before .before .before .before .before .before .before .before .place .ensures) (c .before .before .note .ensures)
+    (place .ensures) (c .before .before .note .ensures)
 
 pub step-in-spec : {M : Type 1} → statement M
 step-in-spec =

@@ -25,8 +25,10 @@ has-requires c κs = search needs
 
 returns-3 : tie.Need-returns-3
 returns-3 c =
-    let between = c .before .before .before .before .between in
-    let if1 = c .before .before .before .if1 in
+    let between′ = c .before .before .before .before .between in
+    let if1′ = c .before .before .before .if1 in
+    let between = between′ in
+    let if1 = if1′ in
     fresh-not _ _ _ _ _ (c .has .ensures) (c .before .slot .ensures .0) (granted (between .ensures) (if1 .left)) (c .before .before .if2 .left)
 
 pub is-fresh-spec : {M : Type 1} → statement M

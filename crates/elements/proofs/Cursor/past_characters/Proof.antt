@@ -24,7 +24,9 @@ shared-slice-read-if2 : tie.Need-shared-slice-read-if2 Inv-loop μ-loop
 shared-slice-read-if2 c = search needs
 
 returns-2 : tie.Need-returns-2 Inv-loop μ-loop
-returns-2 c = c .before .before .before .loop .inv
+returns-2 c =
+    let loop = c .before .before .before .loop in
+    loop .inv
 
 add-if3 : tie.Need-add-if3 Inv-loop μ-loop
 add-if3 c = search needs
@@ -33,10 +35,14 @@ shared-slice-read-if3 : tie.Need-shared-slice-read-if3 Inv-loop μ-loop
 shared-slice-read-if3 c = search needs
 
 cast-if3 : tie.Need-cast-if3 Inv-loop μ-loop
-cast-if3 c = omega (arith, c .shared-slice-known2 .given (c .before .before .before .before .loop .at + 1))
+cast-if3 c =
+    let loop = c .before .before .before .before .loop in
+    omega (arith, c .shared-slice-known2 .given (loop .at + 1))
 
 returns-3 : tie.Need-returns-3 Inv-loop μ-loop
-returns-3 c = c .before .before .before .before .before .loop .inv
+returns-3 c =
+    let loop = c .before .before .before .before .before .loop in
+    loop .inv
 
 add-at : tie.Need-add-at Inv-loop μ-loop
 add-at c = search needs

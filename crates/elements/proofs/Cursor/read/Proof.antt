@@ -40,7 +40,8 @@ returns-6 c = unknown (c .before .before .if1 .left) (no-kind _ (λ z w. omega (
 
 returns-7 : tie.Need-returns-7
 returns-7 c =
-    let if1 = c .before .before .before .before .before .before .if1 in
+    let if1′ = c .before .before .before .before .before .before .if1 in
+    let if1 = if1′ in
     unknown (if1 .left) (no-kind _ (λ z w. omega (arith, c .if6 .left)))
 
 pub read-spec : {M : Type 1} → statement M
