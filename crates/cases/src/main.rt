@@ -4,6 +4,7 @@ use checking::Check;
 use checking_fields::FieldCheck;
 use desk::Record;
 use machine::Answer;
+ghost use Rattle.desk.specs.Calling.{Called};
 
 // What the cases of a file are about.
 enum Sort {
@@ -165,12 +166,21 @@ fn noted<'a>(now: Record, program: &'a [u8], field: &'a [u8], scratch: &[u8]) {
     part(desk::pointer(answer, program, field));
 }
 
+// One call of the desk, the record being lent to it.
+fn lend(noted: Record, program: &[u8], field: &mut [u8], scratch: &mut [u8]) -> Record
+    ensures { λ r. ⌜ Called (now (program .entry)) noted (now (field .entry)) (now (scratch .entry)) r (now (field .exit)) (now (scratch .exit)) ⌝ }
+{
+    let mut lent = noted;
+    desk::desk(&mut lent, program, field, scratch);
+    lent
+}
+
 // So many calls of the desk, from a fresh record.
 fn calls(program: &[u8], field: &mut [u8], used: usize, scratch: &mut [u8], n: u32) {
     let mut now = desk::fresh(used);
     let mut i: u32 = 0;
     while i < n {
-        now = desk::call(now, program, field, scratch);
+        now = lend(now, program, field, scratch);
         noted(now, program, field, scratch);
         i += 1;
     }

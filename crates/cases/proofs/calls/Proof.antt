@@ -19,8 +19,8 @@ fresh-requires c κs = search needs
 loop-holds : tie.Need-loop-holds Inv-loop μ-loop
 loop-holds c = (refl, refl)
 
-call-requires : tie.Need-call-requires Inv-loop μ-loop
-call-requires c κs = search needs
+lend-requires : tie.Need-lend-requires Inv-loop μ-loop
+lend-requires c κs = search needs
 
 noted-requires : tie.Need-noted-requires Inv-loop μ-loop
 noted-requires c κs = search needs
@@ -36,8 +36,8 @@ loop-less c =
 loop-again : tie.Need-loop-again Inv-loop μ-loop
 loop-again c =
     let loop = c .before .before .before .before .before .before .before .before .before .before .before .loop in
-    let call = c .before .before .before .before .before .before .before .call in
-    let one = call .kept in
+    let lend = c .before .before .before .before .before .before .before .lend in
+    let one = lend .kept in
     let inv = loop .inv in
     (one .1 .1 .0 ∙ inv .0, one .1 .1 .1 .0 ∙ inv .1)
 
@@ -58,7 +58,7 @@ calls-spec =
     μ-loop
     fresh-requires
     loop-holds
-    call-requires
+    lend-requires
     noted-requires
     add-i
     loop-less
