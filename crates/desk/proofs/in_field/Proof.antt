@@ -2,50 +2,37 @@ use Rattle.desk.proofs.Pointing.{used-past-field, place-past-used, insi
 use borrow.Author.Needs.{needs}
 use Rattle.desk.proofs.in_field.Statement.{statement}
 use Rattle.desk.proofs.in_field.Tie as tie
-use Rattle.desk.proofs.in_field.Reads as reads
-use Rattle.desk.proofs.in_field.Lts as lts
 
--- src/lib.rt:56:16
 sub-result : tie.Need-sub-result
 sub-result c = search needs
 
--- src/lib.rt:56:16
 part-result-start : tie.Need-part-result-start
 part-result-start c = search needs
 
--- src/lib.rt:56:16
 part-result-end : tie.Need-part-result-end
 part-result-end c = search needs
 
--- src/lib.rt:56:9
 returns : tie.Need-returns
 returns c = used-past-field _ _ _ (c .before .if1 .taken)
 
--- src/lib.rt:59:16
 sub-result-2 : tie.Need-sub-result-2
 sub-result-2 c = search needs
 
--- src/lib.rt:59:16
 part-result-start-2 : tie.Need-part-result-start-2
 part-result-start-2 c = search needs
 
--- src/lib.rt:59:16
 part-result-end-2 : tie.Need-part-result-end-2
 part-result-end-2 c = search needs
 
--- src/lib.rt:59:9
 returns-2 : tie.Need-returns-2
 returns-2 c = place-past-used _ _ _ (c .before .before .if1 .left) (c .before .if2 .taken)
 
--- src/lib.rt:61:5
 part-result-start-3 : tie.Need-part-result-start-3
 part-result-start-3 c = search needs
 
--- src/lib.rt:61:5
 part-result-end-3 : tie.Need-part-result-end-3
 part-result-end-3 c = search needs
 
--- src/lib.rt:52:1
 returns-3 : tie.Need-returns-3
 returns-3 c = inside-used _ _ _ (c .before .before .if1 .left) (c .before .if2 .left)
 

@@ -2,38 +2,28 @@ use Rattle.desk.proofs.Pointing.{past-part, rest-of-part}
 use borrow.Author.Needs.{needs}
 use Rattle.desk.proofs.in_program.Statement.{statement}
 use Rattle.desk.proofs.in_program.Tie as tie
-use Rattle.desk.proofs.in_program.Reads as reads
-use Rattle.desk.proofs.in_program.Lts as lts
 
--- src/lib.rt:69:16
 sub-result : tie.Need-sub-result
 sub-result c = search needs
 
--- src/lib.rt:69:16
 part-result-start : tie.Need-part-result-start
 part-result-start c = search needs
 
--- src/lib.rt:69:16
 part-result-end : tie.Need-part-result-end
 part-result-end c = search needs
 
--- src/lib.rt:69:9
 returns : tie.Need-returns
 returns c = past-part _ _ (c .before .if1 .taken)
 
--- src/lib.rt:71:5
 sub-result-2 : tie.Need-sub-result-2
 sub-result-2 c = search needs
 
--- src/lib.rt:71:5
 part-result-start-2 : tie.Need-part-result-start-2
 part-result-start-2 c = search needs
 
--- src/lib.rt:71:5
 part-result-end-2 : tie.Need-part-result-end-2
 part-result-end-2 c = search needs
 
--- src/lib.rt:65:1
 returns-2 : tie.Need-returns-2
 returns-2 c = rest-of-part _ _ (c .before .if1 .left)
 

@@ -3,30 +3,22 @@ use Rattle.meaning.specs.Pointer.{pointer}
 use Rattle.embed.proofs.Faces.{no-code}
 use Rattle.embed.proofs.coded.Statement.{statement}
 use Rattle.embed.proofs.coded.Tie as tie
-use Rattle.embed.proofs.coded.Reads as reads
-use Rattle.embed.proofs.coded.Lts as lts
 
--- src/lib.rt:81:1
 returns : tie.Need-returns
 returns c = λ used place p f. ap (λ n. pointer n used place p f) (sym (c .match .keys1))
 
--- src/lib.rt:81:1
 returns-2 : tie.Need-returns-2
 returns-2 c = λ used place p f. ap (λ n. pointer n used place p f) (sym (c .match .keys2))
 
--- src/lib.rt:81:1
 returns-3 : tie.Need-returns-3
 returns-3 c = λ used place p f. ap (λ n. pointer n used place p f) (sym (c .match .keys3))
 
--- src/lib.rt:81:1
 returns-4 : tie.Need-returns-4
 returns-4 c = λ used place p f. ap (λ n. pointer n used place p f) (sym (c .match .keys4))
 
--- src/lib.rt:81:1
 returns-5 : tie.Need-returns-5
 returns-5 c = λ used place p f. ap (λ n. pointer n used place p f) (sym (c .match .keys5))
 
--- src/lib.rt:81:1
 returns-6 : tie.Need-returns-6
 returns-6 c = no-code _ (c .match .rest .0 .0 .0 .0 .1) (c .match .rest .0 .0 .0 .1) (c .match .rest .0 .0 .1) (c .match .rest .0 .1) (c .match .rest .1)
 

@@ -2,63 +2,48 @@ use Rattle.embed.proofs.Faces.{no-record, record-ended, record-called}
 use borrow.Author.Needs.{needs}
 use Rattle.embed.proofs.odolzagi_desk.Statement.{statement}
 use Rattle.embed.proofs.odolzagi_desk.Tie as tie
-use Rattle.embed.proofs.odolzagi_desk.Reads as reads
-use Rattle.embed.proofs.odolzagi_desk.Lts as lts
-use Rattle.desk.proofs.call.Reads as call-reads
-use Rattle.embed.proofs.write.Reads as write-reads
-use Rattle.machine.proofs.number.Reads as number-reads
 
--- src/lib.rt:60:9
 returns : tie.Need-returns
 returns c = no-record _ _ _ _ (c .if1 .taken)
 
--- src/lib.rt:62:8
 slice-read-if2 : tie.Need-slice-read-if2
 slice-read-if2 c = search needs
 
--- src/lib.rt:63:9
 returns-2 : tie.Need-returns-2
 returns-2 c = record-ended _ _ _ _ (c .before .before .if1 .left) (c .if2 .taken)
 
--- src/lib.rt:66:15
 slice-read-t11 : tie.Need-slice-read-t11
 slice-read-t11 c = search needs
 
--- src/lib.rt:68:16
 slice-read-t15 : tie.Need-slice-read-t15
 slice-read-t15 c = search needs
 
--- src/lib.rt:70:9
 call-requires : tie.Need-call-requires
 call-requires c κs = search needs
 
--- src/lib.rt:75:9
 number-requires : tie.Need-number-requires
 number-requires c κs = search needs
 
--- src/lib.rt:75:9
 cast-write : tie.Need-cast-write
 cast-write c = search needs
 
--- src/lib.rt:72:5
 write-requires : tie.Need-write-requires
 write-requires c κs = search needs
 
--- src/lib.rt:50:1
 same-length : tie.Need-same-length
 same-length c = search needs
 
--- src/lib.rt:50:1
 same-length-2 : tie.Need-same-length-2
 same-length-2 c = search needs
 
--- src/lib.rt:50:1
 same-length-3 : tie.Need-same-length-3
 same-length-3 c = search needs
 
--- src/lib.rt:50:1
 returns-3 : tie.Need-returns-3
-returns-3 c = record-called _ _ _ _ (c .before .before .before .before .before .before .before .before .before .before .before .before .before .before .before .before .if1 .left) (c .before .before .before .before .before .before .before .before .before .before .before .before .before .before .if2 .left) (c .before .before .before .before .before .before .before .before .before .call .ensures) (c .before .before .before .number .ensures) (c .before .before .write .ensures)
+returns-3 c =
+    record-called _ _ _ _ (c .before .before .before .before .before .before .before .before .before .before .before .before .before .before .before .before .if1 .left)
+    (c .before .before .before .before .before .before .before .before .before .before .before .before .before .before .if2 .left)
+    (c .before .before .before .before .before .before .before .before .before .call .ensures) (c .before .before .before .number .ensures) (c .before .before .write .ensures)
 
 pub odolzagi-desk-spec : {M : Type 1} → statement M
 odolzagi-desk-spec =

@@ -2,55 +2,42 @@ use Rattle.embed.proofs.Faces.{no-answer, answer-told}
 use borrow.Author.Needs.{needs}
 use Rattle.embed.proofs.odolzagi_run.Statement.{statement}
 use Rattle.embed.proofs.odolzagi_run.Tie as tie
-use Rattle.embed.proofs.odolzagi_run.Reads as reads
-use Rattle.embed.proofs.odolzagi_run.Lts as lts
-use Rattle.embed.proofs.write.Reads as write-reads
-use Rattle.machine.proofs.number.Reads as number-reads
-use Rattle.machine.proofs.run.Reads as run-reads
 
--- src/lib.rt:36:9
 returns : tie.Need-returns
 returns c = no-answer _ _ _ _ _ _ (c .if1 .taken)
 
--- src/lib.rt:38:9
 run-requires : tie.Need-run-requires
 run-requires c κs = search needs
 
--- src/lib.rt:42:9
 number-requires : tie.Need-number-requires
 number-requires c κs = search needs
 
--- src/lib.rt:42:9
 cast-write : tie.Need-cast-write
 cast-write c = search needs
 
--- src/lib.rt:43:9
 cast-write-2 : tie.Need-cast-write-2
 cast-write-2 c = search needs
 
--- src/lib.rt:40:5
 write-requires : tie.Need-write-requires
 write-requires c κs = search needs
 
--- src/lib.rt:46:5
 slice-write-answer : tie.Need-slice-write-answer
 slice-write-answer c = search needs
 
--- src/lib.rt:24:1
 same-length : tie.Need-same-length
 same-length c = search needs
 
--- src/lib.rt:24:1
 same-length-2 : tie.Need-same-length-2
 same-length-2 c = search needs
 
--- src/lib.rt:24:1
 same-length-3 : tie.Need-same-length-3
 same-length-3 c = search needs
 
--- src/lib.rt:24:1
 returns-2 : tie.Need-returns-2
-returns-2 c = answer-told _ _ _ _ _ _ (c .before .before .before .before .before .before .before .before .before .before .before .before .before .if1 .left) (c .before .before .before .before .before .before .before .before .before .before .run .ensures) (c .before .before .before .before .number .ensures) (c .before .before .write .ensures)
+returns-2 c =
+    answer-told _ _ _ _ _ _ (c .before .before .before .before .before .before .before .before .before .before .before .before .before .if1 .left)
+    (c .before .before .before .before .before .before .before .before .before .before .run .ensures) (c .before .before .before .before .number .ensures)
+    (c .before .before .write .ensures)
 
 pub odolzagi-run-spec : {M : Type 1} → statement M
 odolzagi-run-spec =
