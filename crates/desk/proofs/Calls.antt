@@ -7,6 +7,7 @@ use Rattle.meaning.specs.Machine.{machine, answer}
 use Rattle.meaning.specs.Desk.{desk, deskCall, deskCalls, noted}
 use Rattle.meaning.proofs.Calls.{desk-law}
 use Rattle.machine.specs.Codes.{codeOf}
+use Rattle.machine.specs.declared.Code.{Code}
 use Rattle.machine.proofs.Only.{code-only}
 use Rattle.desk.specs.Calling.{deskOf, Called}
 use Rattle.desk.specs.declared.Record.{Record}
@@ -27,6 +28,19 @@ only-call p r f s {r₁} {r₂} h k =
     let e = sym h ∙ k in
     let c : codeOf (r₁ .code) ≡ codeOf (r₂ .code) = cc in
     (cc, code-only c, cc, cc, cc)
+
+-- what `fresh` ensures
+abbrev Started : ℕ → Record → Type 0
+Started used r = (r .used ≡ used) × (codeOf (r .code) ≡ 1) × (r .place ≡ 0)
+
+-- and it leaves no second record
+pub only-fresh : (used : ℕ) {r₁ r₂ : Record} → Started used r₁ → Started used r₂ → r₁ ≡ r₂
+only-fresh used {r₁} {r₂} (u₁, c₁, p₁) (u₂, c₂, p₂) =
+    let c : r₁ .code ≡ r₂ .code = code-only (c₁ ∙ sym c₂) in
+    same (u₁ ∙ sym u₂) c (p₁ ∙ sym p₂)
+  where
+    same : {u u′ p p′ : ℕ} {c c′ : Code} → u ≡ u′ → c ≡ c′ → p ≡ p′ → _≡_ {A = Record} (record { used = u; code = c; place = p }) (record { used = u′; code = c′; place = p′ })
+    same a b c = rw (a, b, c)
 
 -- k calls, one after the other, each as the contract has it
 pub data Calls (p : List ℕ) : ℕ → Record → List ℕ → List ℕ → Record → List ℕ → List ℕ → Type 0 where

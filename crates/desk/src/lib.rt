@@ -52,7 +52,8 @@ pub fn desk(noted: &mut Record, program: &[u8], field: &mut [u8], scratch: &mut 
 fn in_field<'a>(field: &'a [u8], used: usize, place: usize) -> &'a [u8]
     ensures { λ r. ⌜ now r ≡ partFrom place (usedField used (now (field .entry))) ⌝ }
 {
-    if field.len() < used {
+    let end = field.len();
+    if end < used {
         return &field[0..0];
     }
     if used < place {
