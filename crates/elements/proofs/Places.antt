@@ -6,34 +6,28 @@ use Prim.Native.Nat.{ℕ, zero, suc, _+_, _-_, _^_, _≤_, _<_}
 use native.Mathlib.Omega.{arith}
 use lib.ListN.{length, getD, take, drop, length-append, length-take, length-drop, drop-of-length-le}
 use lib.Dec.{T, leb}
-use borrow.Author.Tests.{leb-true, leb-false, le-leb}
+use borrow.Author.Tests.{leb-true, leb-false}
 use Rattle.meaning.specs.Elements.{kind, body, cut, elements, join, isSymbol}
 use Rattle.meaning.specs.Goodness.{span}
 use Rattle.meaning.specs.Matching.{Terms, symbol, bracket}
 use Rattle.meaning.proofs.Truth.{never, and-left, and-right, T-true, is-true, is-false, see, span-le}
 use Rattle.meaning.proofs.Cutting.{cut-at as cut-there, join-cut, join-append}
+use Rattle.kinds.proofs.Bodies.{body-known}
 use Rattle.elements.specs.declared.Element.{Element}
 use Rattle.elements.specs.declared.Element.the-variants.{Character, Name, Macrodigit, Open, Close, Call, Return, SVariable, TVariable, EVariable, Equals, SentenceEnd, Header, FunctionEnd, ProgramEnd}
 use Rattle.elements.specs.declared.Reading.the-variants.{Got, Unknown, Cut, End}
 use Rattle.elements.specs.declared.Found.the-variants.{Nothing}
 use Rattle.elements.specs.Bytes.{kindOf, numberOf, digits, bytesOf}
-use Rattle.elements.specs.Reading.{Splits, Begun, ReadAt, over, unknown, short, got, Balanced, symbols, opening, closing, SymbolEnd, no-symbol, TermEnd, no-term, ProperAt}
-
--- an element without a body has the number 0
-pub no-number : (k j n : ℕ) → k ≡ j → body j ≡ 0 → n < 256 ^ body k → 0 ≡ n
-no-number k j n e z h = let q : body k ≡ 0 = rw e z in (let i : n < 256 ^ 0 = rw q at h in omega arith)
+use Rattle.elements.specs.Reading.{Splits, ReadAt, over, unknown, short, got, Balanced, symbols, opening, closing, SymbolEnd, no-symbol, TermEnd, no-term, ProperAt}
 
 -- k is none of 1 to n
 abbrev NoneOf : ℕ → ℕ → Type 0
 NoneOf k zero = Unit {0}
 NoneOf k (suc n) = NoneOf k n × (k ≡ suc n → ⊥)
 
-beyond : (n k : ℕ) → 1 ≤ k → NoneOf k n → n < k
-beyond zero k h r = h
-beyond (suc n) k h r = let l = beyond n k h (r .0) in let q = r .1 in omega arith
-
-pub last-of : (n k : ℕ) → 1 ≤ k → k ≤ suc n → NoneOf k n → k ≡ suc n
-last-of n k h i r = let l = beyond n k h r in omega arith
+beyond : (n k : ℕ) → NoneOf k n → 1 ≤ k → n < k
+beyond zero k r h = h
+beyond (suc n) k r h = let l = beyond n k (r .0) h in let q = r .1 in omega arith
 
 -- nothing stands past the end
 pub none-left : (s : List ℕ) (at : ℕ) → length s ≤ at → elements (drop at s) ≡ []
@@ -103,27 +97,28 @@ pub known-as : (x : Element) {k : ℕ} → k ≡ kindOf x → span 1 15 k ≡ tr
 known-as x e = rw e (known-kind x)
 
 -- where a known kind stands
-module _ {s : List ℕ} {at k low high : ℕ} (b : Begun s at k low high) where
-  pub got-at : (w : ℕ) (x : Element) → kindOf x ≡ k → w ≡ body k → w < length s - at → digits w (numberOf x) ≡ take w (drop (at + 1) s)
-      → numberOf x < 256 ^ w → (next : ℕ) → next ≡ at + 1 + w → ReadAt s at (Got x (record { at = next }))
-  got-at w x ek ew l d n next en = rw en (read-got s at (b .inside) w (numberOf x) x (rw (b .kind-is) ew) l d n (rw (b .kind-is) ek) refl)
+pub behind : (at b : ℕ) {n : ℕ} → n ≡ 1 + b → at + n ≡ at + 1 + b
+behind at b e = omega arith
 
-  pub bare-at : (x : Element) → kindOf x ≡ k → 0 ≡ body k → numberOf x ≡ 0 → ReadAt s at (Got x (record { at = at + 1 }))
-  unfolding digits
-  bare-at x ek ew n = let i = b .inside in got-at 0 x ek ew (omega arith) refl (rw n (omega arith)) (at + 1) (omega arith)
+pub body-fits : {n at l b : ℕ} (w : ℕ) → b ≡ w → n ≡ 1 + b → n ≤ l - at → at < l → at + 1 + w ≤ l
+body-fits w e q f h = omega arith
 
-  pub cut-at : (w : ℕ) → w ≡ body k → 1 ≤ low → high ≤ 15 → length s - at ≤ w → ReadAt s at Cut
-  unfolding span
-  cut-at w ew l h c =
-      let u = b .above in
-      let v = b .below in
-      short (b .inside) (rw (b .kind-is, le-leb 1 k (omega arith), le-leb k 15 (omega arith))) (rw (b .kind-is, ← ew) c)
+module _ {s : List ℕ} {at n : ℕ} (h : at < length s) (q : n ≡ 1 + body (getD s at 0)) where
+  pub cut-at : length s - at < n → ReadAt s at Cut
+  cut-at c = short h (body-known _ (omega arith)) (omega arith)
 
-pub up : (a : ℕ) {k : ℕ} → a ≤ k → (k ≡ a → ⊥) → suc a ≤ k
-up a h n = omega arith
+  module _ (f : n ≤ length s - at) where
+    pub got-at : (w : ℕ) (x : Element) → kindOf x ≡ getD s at 0 → body (getD s at 0) ≡ w → digits w (numberOf x) ≡ take w (drop (at + 1) s)
+        → numberOf x < 256 ^ w → ReadAt s at (Got x (record { at = at + 1 + w }))
+    got-at w x ek ew d l = read-got s at h w (numberOf x) x (sym ew) (omega arith) d l ek refl
 
-pub no-kind : (k : ℕ) → (1 ≤ k → k ≤ 15 → ⊥) → span 1 15 k ≡ false
-no-kind k n = elim (see (span 1 15 k)) [ is-true z ↦ absurd (let w = span-le 1 15 k z in n (w .0) (w .1)) | is-false z ↦ z ]
+    pub bare-at : (x : Element) → kindOf x ≡ getD s at 0 → body (getD s at 0) ≡ 0 → numberOf x ≡ 0 → ReadAt s at (Got x (record { at = at + 1 }))
+    unfolding digits
+    bare-at x ek ew z = let e : at + 1 + 0 ≡ at + 1 = omega arith in rw e at (got-at 0 x ek ew refl (rw z (omega arith)))
+
+-- a kind that is none of the fifteen is unknown
+pub no-kind : (k : ℕ) → NoneOf k 15 → span 1 15 k ≡ false
+no-kind k n = elim (see (span 1 15 k)) [ is-true z ↦ absurd (let w = span-le 1 15 k z in omega (arith, w .1, beyond 15 k n (w .0))) | is-false z ↦ z ]
 
 -- where a whole element stands
 module _ {s : List ℕ} {at : ℕ} (p : ProperAt s at) where

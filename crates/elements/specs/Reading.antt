@@ -27,13 +27,6 @@ pub record Whole1 (e : List ℕ) : Type 0 where
   pub known : span 1 15 (kind e) ≡ true
   pub long : length e ≡ suc (body (kind e))
 
--- an element of kind k begins there, from low to high
-pub record Begun (s : List ℕ) (at k low high : ℕ) : Type 0 where
-  pub inside : at < length s
-  pub kind-is : getD s at 0 ≡ k
-  pub above : low ≤ k
-  pub below : k ≤ high
-
 -- what a cursor at a place reads
 pub data ReadAt (s : List ℕ) (at : ℕ) : Reading → Type 0 where
   over : length s ≤ at → ReadAt s at End

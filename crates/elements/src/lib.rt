@@ -4,7 +4,7 @@ ghost use Prim.Native.Nat.{_+_, _-_, _^_, _<_, _≤_};
 ghost use lib.ListN.{length, getD, take, drop};
 ghost use Rattle.meaning.specs.Elements.{body, elements};
 ghost use Rattle.elements.specs.Bytes.{kindOf, numberOf, digits, bytesOf, Told};
-ghost use Rattle.elements.specs.Reading.{Begun, ReadAt, Proper, NumberedAt, PassedOver, Level, depthAfter, Characters, Shutting, Shut, SymbolEnd, TermEnd, ProperAt, Shared, Comparing};
+ghost use Rattle.elements.specs.Reading.{ReadAt, Proper, NumberedAt, PassedOver, Level, depthAfter, Characters, Shutting, Shut, SymbolEnd, TermEnd, ProperAt, Shared, Comparing};
 
 // An element: fifteen kinds, with the number in the body where there is one.
 pub enum Element {
@@ -134,105 +134,8 @@ fn number_at(s: &[u8], at: usize, width: usize) -> u32
     low + word(s, at + 2) * 65536
 }
 
-// A symbol there. Each kind has its own arm, so that no length is looked up.
-fn read_symbol(s: &[u8], at: usize, k: u8) -> Reading
-    requires { ⌜ Begun (now s) at k 1 3 ⌝ }
-    ensures { λ r. ⌜ ReadAt (now (s .entry)) at r ⌝ }
-{
-    let left = s.len() - at;
-    match k {
-        kinds::CHARACTER => {
-            if left <= 1 {
-                return Reading::Cut;
-            }
-            Reading::Got(
-                Element::Character(number_at(s, at + 1, 1)),
-                Cursor { at: at + 2 },
-            )
-        }
-        kinds::NAME => {
-            if left <= 2 {
-                return Reading::Cut;
-            }
-            Reading::Got(
-                Element::Name(number_at(s, at + 1, 2)),
-                Cursor { at: at + 3 },
-            )
-        }
-        _ => {
-            if left <= 4 {
-                return Reading::Cut;
-            }
-            Reading::Got(
-                Element::Macrodigit(number_at(s, at + 1, 4)),
-                Cursor { at: at + 5 },
-            )
-        }
-    }
-}
-
-// A bracket there.
-fn read_bracket(s: &[u8], at: usize, k: u8) -> Reading
-    requires { ⌜ Begun (now s) at k 4 7 ⌝ }
-    ensures { λ r. ⌜ ReadAt (now (s .entry)) at r ⌝ }
-{
-    match k {
-        kinds::OPEN => Reading::Got(Element::Open, Cursor { at: at + 1 }),
-        kinds::CLOSE => Reading::Got(Element::Close, Cursor { at: at + 1 }),
-        kinds::CALL => {
-            if s.len() - at <= 2 {
-                return Reading::Cut;
-            }
-            Reading::Got(
-                Element::Call(number_at(s, at + 1, 2)),
-                Cursor { at: at + 3 },
-            )
-        }
-        _ => Reading::Got(Element::Return, Cursor { at: at + 1 }),
-    }
-}
-
-// A variable there.
-fn read_variable(s: &[u8], at: usize, k: u8) -> Reading
-    requires { ⌜ Begun (now s) at k 8 10 ⌝ }
-    ensures { λ r. ⌜ ReadAt (now (s .entry)) at r ⌝ }
-{
-    if s.len() - at <= 1 {
-        return Reading::Cut;
-    }
-    let n = number_at(s, at + 1, 1);
-    let next = Cursor { at: at + 2 };
-    match k {
-        kinds::S_VARIABLE => Reading::Got(Element::SVariable(n), next),
-        kinds::T_VARIABLE => Reading::Got(Element::TVariable(n), next),
-        _ => Reading::Got(Element::EVariable(n), next),
-    }
-}
-
-// What stands between sides and functions there.
-fn read_mark(s: &[u8], at: usize, k: u8) -> Reading
-    requires { ⌜ Begun (now s) at k 11 15 ⌝ }
-    ensures { λ r. ⌜ ReadAt (now (s .entry)) at r ⌝ }
-{
-    match k {
-        kinds::EQUALS => Reading::Got(Element::Equals, Cursor { at: at + 1 }),
-        kinds::SENTENCE_END => Reading::Got(Element::SentenceEnd, Cursor { at: at + 1 }),
-        kinds::HEADER => {
-            if s.len() - at <= 2 {
-                return Reading::Cut;
-            }
-            Reading::Got(
-                Element::Header(number_at(s, at + 1, 2)),
-                Cursor { at: at + 3 },
-            )
-        }
-        kinds::FUNCTION_END => Reading::Got(Element::FunctionEnd, Cursor { at: at + 1 }),
-        _ => Reading::Got(Element::ProgramEnd, Cursor { at: at + 1 }),
-    }
-}
-
 impl Cursor {
-    // Reads one element, and hands the moved cursor back.
+    // Reads one element, and hands the moved cursor back. Each kind has its own arm, so that no place waits for a look-up.
     pub fn read(self, s: &[u8]) -> Reading
         ensures { λ r. ⌜ ReadAt (now (s .entry)) (self .at) r ⌝ }
     {
@@ -241,15 +144,31 @@ impl Cursor {
             return Reading::End;
         }
         let k = s[at];
+        if s.len() - at < kinds::length_of(k) {
+            return Reading::Cut;
+        }
+        let body = at + 1;
+        // behind a body of no byte, of one, of two, of four
+        let none = Cursor { at: body };
+        let one = Cursor { at: body + 1 };
+        let two = Cursor { at: body + 2 };
+        let four = Cursor { at: body + 4 };
         match k {
-            kinds::CHARACTER | kinds::NAME | kinds::MACRODIGIT => read_symbol(s, at, k),
-            kinds::OPEN | kinds::CLOSE | kinds::CALL | kinds::RETURN => read_bracket(s, at, k),
-            kinds::S_VARIABLE | kinds::T_VARIABLE | kinds::E_VARIABLE => read_variable(s, at, k),
-            kinds::EQUALS
-            | kinds::SENTENCE_END
-            | kinds::HEADER
-            | kinds::FUNCTION_END
-            | kinds::PROGRAM_END => read_mark(s, at, k),
+            kinds::CHARACTER => Reading::Got(Element::Character(number_at(s, body, 1)), one),
+            kinds::NAME => Reading::Got(Element::Name(number_at(s, body, 2)), two),
+            kinds::MACRODIGIT => Reading::Got(Element::Macrodigit(number_at(s, body, 4)), four),
+            kinds::OPEN => Reading::Got(Element::Open, none),
+            kinds::CLOSE => Reading::Got(Element::Close, none),
+            kinds::CALL => Reading::Got(Element::Call(number_at(s, body, 2)), two),
+            kinds::RETURN => Reading::Got(Element::Return, none),
+            kinds::S_VARIABLE => Reading::Got(Element::SVariable(number_at(s, body, 1)), one),
+            kinds::T_VARIABLE => Reading::Got(Element::TVariable(number_at(s, body, 1)), one),
+            kinds::E_VARIABLE => Reading::Got(Element::EVariable(number_at(s, body, 1)), one),
+            kinds::EQUALS => Reading::Got(Element::Equals, none),
+            kinds::SENTENCE_END => Reading::Got(Element::SentenceEnd, none),
+            kinds::HEADER => Reading::Got(Element::Header(number_at(s, body, 2)), two),
+            kinds::FUNCTION_END => Reading::Got(Element::FunctionEnd, none),
+            kinds::PROGRAM_END => Reading::Got(Element::ProgramEnd, none),
             _ => Reading::Unknown,
         }
     }
@@ -260,10 +179,10 @@ impl Cursor {
         ensures { λ r. ⌜ NumberedAt (now (s .entry)) (self .at) kind (r .number) (r .next .at) ⌝ }
     {
         let at = self.at;
-        let width = kinds::body_of(kind);
+        let length = kinds::length_of(kind);
         Numbered {
-            number: number_at(s, at + 1, width),
-            next: Cursor { at: at + 1 + width },
+            number: number_at(s, at + 1, length - 1),
+            next: Cursor { at: at + length },
         }
     }
 
@@ -277,7 +196,7 @@ impl Cursor {
         Passed {
             kind,
             next: Cursor {
-                at: at + 1 + kinds::body_of(kind),
+                at: at + kinds::length_of(kind),
             },
         }
     }
@@ -318,7 +237,7 @@ pub fn symbol_end(s: &[u8], at: usize) -> Found
     if !kinds::is_symbol(k) {
         return Found::Nothing;
     }
-    Found::At(at + 1 + kinds::body_of(k))
+    Found::At(at + kinds::length_of(k))
 }
 
 // The open brackets after an element of kind k.
@@ -373,7 +292,7 @@ pub fn term_end(s: &[u8], at: usize) -> Found
     if k == kinds::OPEN {
         return Found::At(shut_end(s, at + 1));
     }
-    Found::At(at + 1 + kinds::body_of(k))
+    Found::At(at + kinds::length_of(k))
 }
 
 fn same(x: Element, y: Element) -> bool

@@ -1,7 +1,7 @@
-// Kinds and what they fix: the length of a body, the slot of a variable; and sets of slots as the bits of a number.
+// Kinds and what they fix: the length of an element, the slot of a variable; and sets of slots as the bits of a number.
 ghost use mathlib.Core.Path.{_≡_};
 ghost use mathlib.Core.List.{_∷_, []};
-ghost use Prim.Native.Nat.{_≤_, _<_};
+ghost use Prim.Native.Nat.{_+_, _≤_, _<_};
 ghost use Rattle.meaning.specs.Elements.{body, isSymbol, isVariable};
 ghost use Rattle.kinds.specs.Slots.{slotOf, within, joined};
 
@@ -36,22 +36,26 @@ pub const FUNCTION_END: u8 = 14;
 
 pub const PROGRAM_END: u8 = 15;
 
-// How many slots variables have, and how long a table of their values' starts and ends is.
+// Where the slots of t-variables and of e-variables begin, how many slots there are, and how long a table of values' starts and ends is.
+pub const T_SLOTS: usize = 16;
+
+pub const E_SLOTS: usize = 32;
+
 pub const SLOTS: usize = 48;
 
 pub const BINDS: usize = 96;
 
-// The table of body lengths, three bits for each kind from 00 on: an array would be laid out anew at each read.
-const BODIES: u64 = 1100736891016;
+// The table of lengths, three bits for each kind from 00 on: an array would be laid out anew at each read.
+const LENGTHS: u64 = 41311447849681;
 
-// The length of the body of kind k.
-pub fn body_of(k: u8) -> usize
-    ensures { λ r. ⌜ (r ≡ body k) × (r ≤ 4) ⌝ }
+// The length of an element of kind k: the kind's byte and its body.
+pub fn length_of(k: u8) -> usize
+    ensures { λ r. ⌜ (r ≡ 1 + body k) × (r ≤ 5) ⌝ }
 {
     if k <= PROGRAM_END {
-        ((BODIES >> ((k as u32) * 3)) % 8) as usize
+        ((LENGTHS >> ((k as u32) * 3)) % 8) as usize
     } else {
-        0
+        1
     }
 }
 

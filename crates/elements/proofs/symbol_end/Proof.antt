@@ -5,7 +5,7 @@ use borrow.Author.Needs.{needs}
 use borrow.Author.Tests.{not-true, not-false}
 use Rattle.meaning.proofs.Truth.{true-T}
 use Rattle.elements.specs.Reading.{symbol-at}
-use Rattle.elements.proofs.Places.{no-symbol-end, no-symbol-here, symbol-here, symbol-kind}
+use Rattle.elements.proofs.Places.{behind, no-symbol-end, no-symbol-here, symbol-here, symbol-kind}
 use Rattle.elements.proofs.symbol_end.Statement.{statement}
 use Rattle.elements.proofs.symbol_end.Tie as tie
 
@@ -23,23 +23,20 @@ returns-2 c =
     let s = c .before .before .before .before .before in
     no-symbol-here (s .args .s .now) (s .args .at) (omega arith) (sym (c .before .is-symbol .ensures) ∙ not-true _ (c .if2 .taken))
 
-add-t4 : tie.Need-add-t4
-add-t4 c = search needs
+length-of-requires : tie.Need-length-of-requires
+length-of-requires c κs = search needs
 
-body-of-requires : tie.Need-body-of-requires
-body-of-requires c κs = search needs
-
-add-t10 : tie.Need-add-t10
-add-t10 c = search needs
+add-t9 : tie.Need-add-t9
+add-t9 c = search needs
 
 returns-3 : tie.Need-returns-3
 returns-3 c =
     let s = c .before .before .before .before .before .before in
     let k = symbol-kind (_ ∷ []) (true-T _ (sym (c .before .before .is-symbol .ensures) ∙ not-false _ (c .before .if2 .left))) in
     let (t, p) = symbol-here (s .args .s .now) (s .args .at) (omega arith) (s .pre .balanced) (λ e. omega (arith, k, e)) (λ e. omega (arith, k, e)) in
-    rw (c .body-of .ensures .0) (symbol-at t p)
+    rw (behind (s .args .at) _ (c .length-of .ensures .0)) (symbol-at t p)
 
 pub symbol-end-spec : {M : Type 1} → statement M
 symbol-end-spec =
     tie.close
-    (tie.spec returns shared-slice-read-k is-symbol-requires returns-2 add-t4 body-of-requires add-t10 returns-3)
+    (tie.spec returns shared-slice-read-k is-symbol-requires returns-2 length-of-requires add-t9 returns-3)

@@ -1,5 +1,5 @@
 use Rattle.elements.proofs.Levels.{shutting-here, bracketed}
-use Rattle.elements.proofs.Places.{no-term-end, no-term-here, symbol-here}
+use Rattle.elements.proofs.Places.{behind, no-term-end, no-term-here, symbol-here}
 use Rattle.elements.specs.Reading.{term-at}
 use Rattle.meaning.specs.Matching.{symbol, stop}
 use native.Mathlib.Omega.{arith}
@@ -31,26 +31,23 @@ returns-3 c =
     let s = c .before .before .before .before .before .before in
     bracketed (s .args .s .now) (s .args .at) _ (omega arith) (s .pre) (c .before .if3 .taken) (c .shut-end .ensures)
 
-add-t4 : tie.Need-add-t4
-add-t4 c = search needs
+length-of-requires : tie.Need-length-of-requires
+length-of-requires c κs = search needs
 
-body-of-requires : tie.Need-body-of-requires
-body-of-requires c κs = search needs
-
-add-t11 : tie.Need-add-t11
-add-t11 c =
+add-t10 : tie.Need-add-t10
+add-t10 c =
     let s = c .before .before .before .before .before .before in
     omega (
       arith,
       symbol-here (s .args .s .now) (s .args .at) (omega arith) (s .pre .balanced) (c .before .if3 .left) (c .before .before .if2 .left) .1 .fits,
-      c .body-of .ensures .0,
+      c .length-of .ensures .0,
     )
 
 returns-4 : tie.Need-returns-4
 returns-4 c =
     let s = c .before .before .before .before .before .before in
     let (t, p) = symbol-here (s .args .s .now) (s .args .at) (omega arith) (s .pre .balanced) (c .before .if3 .left) (c .before .before .if2 .left) in
-    rw (c .body-of .ensures .0) (term-at (symbol t stop) p)
+    rw (behind (s .args .at) _ (c .length-of .ensures .0)) (term-at (symbol t stop) p)
 
 pub term-end-spec : {M : Type 1} → statement M
 term-end-spec =
@@ -62,7 +59,6 @@ term-end-spec =
     add-shut-end
     shut-end-requires
     returns-3
-    add-t4
-    body-of-requires
-    add-t11
+    length-of-requires
+    add-t10
     returns-4)
