@@ -1,23 +1,24 @@
 -- Elements that surely are good make a step of the check.
-use mathlib.Core.Path.{_≡_, refl, sym, _∙_, ap}
+use mathlib.Core.Path.{_≡_, refl, sym, _∙_}
 use mathlib.Core.Bool.{Bool, true, false, _||_}
 use mathlib.Core.Logic.{_⊎_, inl, inr}
 use mathlib.Core.List.{List}
-use Prim.Native.Nat.{ℕ, _+_, _-_, _^_, _≤_, _<_}
+use Prim.Native.Nat.{ℕ, _+_, _-_, _≤_, _<_}
 use native.Mathlib.Omega.{arith}
 use lib.ListN.{length}
 use lib.Dec.{eqb, leb, ltb}
 use borrow.Author.Tests.{eqb-true, eqb-false, leb-false, ne-eqb, le-leb, lt-leb, lt-ltb}
 use Rattle.meaning.specs.Elements.{Element, body}
-use Rattle.meaning.specs.Goodness.{left, right, span, stands, implies, endsSide, paired, underLimit, firstFailing, partAfter, sided}
+use Rattle.meaning.specs.Goodness.{left, right, span, stands, implies, endsSide, paired, underLimit, firstFailing, partAfter, sided, countAfter}
 use Rattle.meaning.proofs.Truth.{never, is-true, is-false, see, or-right, span-le}
 use Rattle.taking.specs.declared.State.{State}
+use Rattle.kinds.specs.Slots.{slotOf, joined}
 use Rattle.kinds.specs.Stacks.{stack}
 use Rattle.taking.specs.Standing.{partOf, nextOf, stackAfter, depthAfter, fresh, limitsOf, testsOf, Movable, movedTo, Ready, Tells, Steps}
 use Rattle.checking.specs.Passing.{HasRoom, Tried}
 use Rattle.taking.proofs.Parts.{sided-is}
 use Rattle.taking.proofs.Opens.{neither-of as neither, alone, Becomes, none-moves}
-use Rattle.taking.proofs.Tests.{passes, span-from, span-low, under, fresh-plain, limits-old, limits-left}
+use Rattle.taking.proofs.Tests.{passes, span-from, span-low, under, fresh-plain, limits-old, limits-left, count-side, moved-old, moved-new}
 use Rattle.taking.proofs.Stepping.{accepted}
 
 pub plain : (k : ℕ) → k < 8 → span 8 10 k ≡ false
@@ -119,47 +120,47 @@ shallow q st H R =
     let y : sided (partOf (q .part)) ≡ true = rw (sided-is (q .part), H .0) (or-right (eqb (q .part) 0)) in
     omega (arith, rw y at (R .means .deep), few q H, rw z at (R .room))
 
-pub movable : (q : State) (k v : ℕ) → (endsSide k ≡ false → q .count + 1 < 2 ^ 64) → Movable q k v false
-movable q k v h = (h, λ z. never (let w : false ≡ true = z in cc))
-
 pub end-movable : (q : State) (k : ℕ) → endsSide k ≡ true → Movable q k 0 false
-end-movable q k z = movable q k 0 (λ y. never (let c : true ≡ false = sym z ∙ y in cc))
-
-pub new-movable : (q : State) (k v : ℕ) (new : Bool) → HasRoom q → 8 ≤ k → k ≤ 10 → v ≤ 15 → (q .number ≤ 15) ⊎ (new ≡ false) → Movable q k v new
-new-movable q k v new H low high small w = (λ z. omega (arith, few q H), λ z. (low, high, small, below w z))
-  where
-    below : (q .number ≤ 15) ⊎ (new ≡ false) → new ≡ true → q .number < 16
-    below (inl l) z = omega arith
-    below (inr y) z = never (let c : true ≡ false = sym z ∙ y in cc)
+end-movable q k z = (λ y. never (let c : true ≡ false = sym z ∙ y in cc), λ y. never (let c : false ≡ true = y in cc))
 
 -- ---- what the helpers answer
 pub refused : (q : State) (k v : ℕ) (st : List ℕ) {n : ℕ} → (n ≡ 0 → ⊥) → Tried q k v st (record { fault = n; next = q }) st
 refused q k v st n = record { steps = λ z. absurd (n z); part = refl; kept = λ m. refl }
 
-pub bracket-passed : (q : State) (H : HasRoom q) (k : ℕ) → 4 ≤ k → k ≤ 7 → ((5 < k) × (q .part ≡ 4)) ⊎ (k ≤ 5) → (st : List ℕ) → Ready q st → paired k (stack (q .depth) st) ≡ true
-    → (d : ℕ) (st′ : List ℕ) (q′ : State) → d ≡ depthAfter k (q .depth) → st′ ≡ stackAfter k (q .depth) st → q′ ≡ movedTo q k 0 (q .part) d false
-    → Tried q k 0 st (record { fault = 0; next = q′ }) st′
-unfolding movedTo
-bracket-passed q H k low high w st R p d st′ q′ ed es eq =
-    let y : span 8 10 k ≡ false = plain k (omega arith) in
-    record {
-      steps = λ z. old-steps q H k 0 (omega arith) (omega arith) (only w) st R p (rw y) false (fresh-plain (q .set) k 0 y) refl d st′ q′ ed es eq;
-      part = ap (λ (x : State). x .part) eq;
-      kept = λ n. absurd (n refl);
-    }
-  where
-    only : ((5 < k) × (q .part ≡ 4)) ⊎ (k ≤ 5) → (k ≡ 6) ⊎ (k ≡ 7) → q .part ≡ 4
-    only (inl w) e = w .1
-    only (inr w) (inl e) = never (omega arith)
-    only (inr w) (inr e) = never (omega arith)
+module _ (q : State) (H : HasRoom q) where
+  counted : (k : ℕ) → k ≤ 10 → q .count + 1 ≡ countAfter (partOf (q .part)) k (q .count)
+  counted k h = count-side (q .part) k (q .count) (no-end k h) (rw (sided-is (q .part), H .0) (or-right (eqb (q .part) 0)))
 
-pub variable-passed : (q : State) (H : HasRoom q) (k v : ℕ) → 8 ≤ k → k ≤ 10 → v ≤ 15 → (new : Bool) → new ≡ fresh (q .set) k v → ((new ≡ true) × (q .part ≡ 4 → ⊥) × (q .number < 16)) ⊎ (new ≡ false)
-    → (q′ : State) → q′ ≡ movedTo q k v (q .part) (q .depth) new → (st : List ℕ) → Ready q st
-    → Tried q k v st (record { fault = 0; next = q′ }) st
-unfolding movedTo span
-variable-passed q H k v low high small new en w q′ eq st R =
-    record { steps = λ z. moved w; part = ap (λ (x : State). x .part) eq; kept = λ n. absurd (n refl) }
-  where
+  plain-passed : (k v : ℕ) → 1 ≤ k → k ≤ 7 → ((k ≡ 6) ⊎ (k ≡ 7) → q .part ≡ 4) → (st : List ℕ) → Ready q st → paired k (stack (q .depth) st) ≡ true
+      → (d : ℕ) (st′ : List ℕ) → d ≡ depthAfter k (q .depth) → st′ ≡ stackAfter k (q .depth) st
+      → Tried q k v st (record { fault = 0; next = record { part = q .part; depth = d; count = q .count + 1; set = q .set; number = q .number } }) st′
+  plain-passed k v low high only st R p d st′ ed es =
+      let y : span 8 10 k ≡ false = plain k (omega arith) in
+      let m = moved-old q k v (q .part) d false (q .count + 1) (counted k (omega arith)) (H .0) refl in
+      record {
+        steps = λ z. old-steps q H k v low (omega arith) only st R p (rw y) false (fresh-plain (q .set) k v y) refl d st′ _ ed es m;
+        part = refl;
+        kept = λ n. absurd (n refl);
+      }
+
+  pub symbol-passed : (k v : ℕ) → 1 ≤ k → k ≤ 3 → (st : List ℕ) → Ready q st
+      → Tried q k v st (record { fault = 0; next = record { part = q .part; depth = q .depth; count = q .count + 1; set = q .set; number = q .number } }) st
+  symbol-passed k v low high st R =
+      let n = neither k 5 7 (omega arith) (omega arith) in
+      let B = none-moves k (q .depth) st (neither k 4 6 (omega arith) (omega arith)) n in
+      plain-passed k v low (omega arith) (λ w. absurd (neither k 6 7 (omega arith) (omega arith) w)) st R (alone k (stack (q .depth) st) (omega arith) n) (q .depth) st (B .0) (B .1)
+
+  pub bracket-passed : (k v : ℕ) → 4 ≤ k → k ≤ 7 → ((5 < k) × (q .part ≡ 4)) ⊎ (k ≤ 5) → (st : List ℕ) → Ready q st → paired k (stack (q .depth) st) ≡ true
+      → (d : ℕ) (st′ : List ℕ) → d ≡ depthAfter k (q .depth) → st′ ≡ stackAfter k (q .depth) st
+      → Tried q k v st (record { fault = 0; next = record { part = q .part; depth = d; count = q .count + 1; set = q .set; number = q .number } }) st′
+  bracket-passed k v low high w = plain-passed k v (omega arith) high (only w)
+    where
+      only : ((5 < k) × (q .part ≡ 4)) ⊎ (k ≤ 5) → (k ≡ 6) ⊎ (k ≡ 7) → q .part ≡ 4
+      only (inl w) e = w .1
+      only (inr w) (inl e) = never (omega arith)
+      only (inr w) (inr e) = never (omega arith)
+
+  module _ (k v : ℕ) (low : 8 ≤ k) (high : k ≤ 10) (small : v ≤ 15) (st : List ℕ) (R : Ready q st) where
     still : Becomes k (q .depth) st (q .depth) st
     still = none-moves k (q .depth) st (neither k 4 6 (omega arith) (omega arith)) (neither k 5 7 (omega arith) (omega arith))
 
@@ -167,11 +168,31 @@ variable-passed q H k v low high small new en w q′ eq st R =
     pairs = alone k (stack (q .depth) st) high (neither k 5 7 (omega arith) (omega arith))
 
     numbered : implies (span 8 10 k) (leb v 15) ≡ true
+    unfolding span
     numbered = rw (le-leb 8 k low, le-leb k 10 high, le-leb v 15 small)
 
-    moved : ((new ≡ true) × (q .part ≡ 4 → ⊥) × (q .number < 16)) ⊎ (new ≡ false) → Steps q k v st (record { fault = 0; next = q′ }) st
-    moved (inl u) = new-steps q H k v (omega arith) high (λ z. absurd (neither k 6 7 (omega arith) (omega arith) z)) st R pairs numbered new en (u .0) (u .1) (u .2) (q .depth) st q′ (still .0) (still .1) eq
-    moved (inr u) = old-steps q H k v (omega arith) high (λ z. absurd (neither k 6 7 (omega arith) (omega arith) z)) st R pairs numbered new en u (q .depth) st q′ (still .0) (still .1) eq
+    anywhere : (k ≡ 6) ⊎ (k ≡ 7) → q .part ≡ 4
+    anywhere w = absurd (neither k 6 7 (omega arith) (omega arith) w)
+
+    pub old-passed : {new : Bool} → new ≡ fresh (q .set) k v → new ≡ false
+        → Tried q k v st (record { fault = 0; next = record { part = q .part; depth = q .depth; count = q .count + 1; set = q .set; number = q .number } }) st
+    old-passed {new} en z =
+        let m = moved-old q k v (q .part) (q .depth) new (q .count + 1) (counted k high) (H .0) z in
+        record {
+          steps = λ f. old-steps q H k v (omega arith) high anywhere st R pairs numbered new en z (q .depth) st _ (still .0) (still .1) m;
+          part = refl;
+          kept = λ n. absurd (n refl);
+        }
+
+    pub new-passed : {new : Bool} → new ≡ fresh (q .set) k v → new ≡ true → (q .part ≡ 4 → ⊥) → q .number < 16 → {j slots : ℕ} → j ≡ slotOf k v → slots ≡ joined (q .set) j
+        → Tried q k v st (record { fault = 0; next = record { part = q .part; depth = q .depth; count = q .count + 1; set = slots; number = q .number + 1 } }) st
+    new-passed {new} en z n l {j} {slots} f g =
+        let m = moved-new q k v (q .part) (q .depth) new (q .count + 1) (counted k high) j slots (H .0) z f g in
+        record {
+          steps = λ e. new-steps q H k v (omega arith) high anywhere st R pairs numbered new en z n l (q .depth) st _ (still .0) (still .1) m;
+          part = refl;
+          kept = λ n. absurd (n refl);
+        }
 
 -- ---- only a variable's number is asked for
 pub tells-plain : {k v : ℕ} {x : Element} → Tells k v x → span 8 10 k ≡ false → Tells k 0 x

@@ -10,18 +10,18 @@ use lib.ListN.{length, getD, take, drop, length-take, length-drop, drop-of-lengt
 use lib.Dec.{eqb}
 use borrow.Author.Tests.{eqb-true, eqb-false, eq-eqb, ne-eqb}
 use Rattle.meaning.specs.Elements.{Element, kind, body, cut, elements, join}
-use Rattle.meaning.specs.Goodness.{Part, outside, start, left, after, State as Stage, at, span, stands, endsSide, underLimit, onRight, tests, fault, partAfter, sided, countAfter, stateAfter, mayEnd, firstBad, badProgram}
-use Rattle.meaning.proofs.Truth.{never, is-true, is-false, see, or-right}
+use Rattle.meaning.specs.Goodness.{Part, outside, start, left, after, State as Stage, at, span, stands, endsSide, underLimit, onRight, tests, fault, partAfter, sided, stateAfter, mayEnd, firstBad, badProgram}
+use Rattle.meaning.proofs.Truth.{never, is-true, is-false, see}
 use Rattle.meaning.proofs.Cutting.{cut-at}
 use Rattle.taking.specs.declared.State.{State}
 use Rattle.taking.specs.declared.Taken.{Taken}
 use Rattle.kinds.specs.Stacks.{stack}
 use Rattle.taking.specs.Standing.{numberOf as partNumber, partOf, nextOf, movedTo, Means, Ready, Tells, Steps}
-use Rattle.checking.specs.Passing.{HasRoom, Tried, Reading}
-use Rattle.taking.proofs.Parts.{sided-is, in-field, field-stays}
-use Rattle.taking.proofs.Tests.{fails, passes, stands-yes, fresh-plain, limits-old, count-side, moved-old}
+use Rattle.checking.specs.Passing.{Tried, Reading}
+use Rattle.taking.proofs.Parts.{in-field, field-stays}
+use Rattle.taking.proofs.Tests.{fails, passes, stands-yes, fresh-plain, limits-old}
 use Rattle.taking.proofs.Variables.{or-no, holds-none}
-use Rattle.taking.proofs.Opens.{neither-of as neither, none-moves, paired-none, alone}
+use Rattle.taking.proofs.Opens.{neither-of as neither, none-moves, paired-none}
 use Rattle.taking.proofs.Stepping.{told-by, told-as}
 use Rattle.elements.specs.declared.Element.{Element as Read}
 use Rattle.elements.specs.declared.Element.the-variants.{Equals, SentenceEnd}
@@ -30,7 +30,7 @@ use Rattle.elements.specs.declared.Reading.the-variants.{Got, Unknown, Cut, End
 use Rattle.elements.specs.Bytes.{kindOf, numberOf, bytesOf}
 use Rattle.elements.specs.Reading.{ReadAt, over, got, unknown, short}
 use Rattle.elements.proofs.Places.{split-size, bare-at}
-use Rattle.checking.proofs.Passing.{plain, end-plain, end-kind, no-end, good-steps, old-steps, tells-plain}
+use Rattle.checking.proofs.Passing.{end-plain, end-kind, good-steps, tells-plain}
 
 -- ---- what a cursor reads there
 -- the element at i
@@ -65,11 +65,12 @@ end-read : (bs : List ℕ) (i : ℕ) → i < length bs → (k : ℕ) → getD bs
 unfolding endsSide body
 end-read bs i h k e z =
     elim (see (eqb k 11)) [
-      | is-true y ↦ let w = eqb-true k 11 y in (Equals, bare-at {low = 11} {high = 12} (record { inside = h; kind-is = e; above = omega arith; below = omega arith }) Equals (sym w) (rw w) refl, sym w)
-      | is-false y ↦
-          let w = eqb-true k 12 (rw y at z) in
-          (SentenceEnd, bare-at {low = 11} {high = 12} (record { inside = h; kind-is = e; above = omega arith; below = omega arith }) SentenceEnd (sym w) (rw w) refl, sym w)
+      | is-true y ↦ let w = eqb-true k 11 y in (Equals, read-bare Equals (sym (e ∙ w)) (rw (e ∙ w)) refl, sym w)
+      | is-false y ↦ let w = eqb-true k 12 (rw y at z) in (SentenceEnd, read-bare SentenceEnd (sym (e ∙ w)) (rw (e ∙ w)) refl, sym w)
     ]
+  where
+    read-bare : (x : Read) → kindOf x ≡ getD bs i 0 → body (getD bs i 0) ≡ 0 → numberOf x ≡ 0 → ReadAt bs i (Got x (record { at = i + 1 }))
+    read-bare x ek eb = bare-at h refl (omega arith) x ek eb
 
 -- ---- what a step does to the definition's state
 abbrev partIn : Stage → Part
@@ -221,27 +222,10 @@ module _ {found : Option ℕ} {bs st : List ℕ} {i : ℕ} {q : State} (R : Read
       let m : i + 1 ≡ next = omega (arith, en, ap body ek, b .2) in
       rw m at (turned R A I S refl refl)
 
-  module _ {y : Read} {c : Cursor} (A : ReadAt bs i (Got y c)) where
-    -- a symbol
-    pub symbol-passed : HasRoom q → 1 ≤ kindOf y → kindOf y < 4
-        → Reading found bs (c .at) (record { part = q .part; depth = q .depth; count = q .count + 1; set = q .set; number = q .number }) st
-    symbol-passed H low high =
-        let k : ℕ = kindOf y in
-        let v : ℕ = numberOf y in
-        let p : span 8 10 k ≡ false = plain k (omega arith) in
-        let n : (k ≡ 5) ⊎ (k ≡ 7) → ⊥ = neither k 5 7 (omega arith) (omega arith) in
-        let B = none-moves k (q .depth) st (neither k 4 6 (omega arith) (omega arith)) n in
-        let z : endsSide k ≡ false = no-end k (omega arith) in
-        let w : q .count + 1 ≡ countAfter (partOf (q .part)) k (q .count) = count-side (q .part) k (q .count) z (rw (sided-is (q .part), H .0) (or-right (eqb (q .part) 0))) in
-        turned R A (told-by y (got-number A))
-        (old-steps q H k v low (omega arith) (λ w. absurd (neither k 6 7 (omega arith) (omega arith) w)) st (ready R) (alone k (stack (q .depth) st) (omega arith) n) (rw p) false (fresh-plain (q .set) k v p) refl
-        (q .depth) st _ (B .0) (B .1) (moved-old q k v (q .part) (q .depth) false (q .count + 1) w (H .0) refl)) refl refl
-
-    pub bracket-on : {r : Taken} {st′ : List ℕ} {k : ℕ} → k ≡ kindOf y → k < 8 → Tried q k 0 st r st′ → r .fault ≡ 0 → length st′ ≡ length st → Reading found bs (c .at) (r .next) st′
-    bracket-on {k = k} e h T f m = turned R A (tells-plain (told-as y (got-number A) e refl) (plain k h)) (T .steps f) f m
-
-    pub variable-on : {r : Taken} {k v : ℕ} → k ≡ kindOf y → v ≡ numberOf y → Tried q k v st r st → r .fault ≡ 0 → Reading found bs (c .at) (r .next) st
-    variable-on e n T f = turned R A (told-as y (got-number A) e n) (T .steps f) f refl
+  -- an element that was passed
+  pub passed-on : {y : Read} {c : Cursor} → ReadAt bs i (Got y c) → {r : Taken} {st′ : List ℕ} → Tried q (kindOf y) (numberOf y) st r st′ → r .fault ≡ 0 → length st′ ≡ length st
+      → Reading found bs (c .at) (r .next) st′
+  passed-on {y} A T f l = turned R A (told-by y (got-number A)) (T .steps f) f l
 
   pub same-stack : {st′ : List ℕ} → st′ ≡ st → Reading found bs i q st′
   same-stack e = rw e R

@@ -27,10 +27,22 @@ struct Reached {
     state: State,
 }
 
+// Takes a symbol, which can stand in every side.
+fn pass_symbol(mut state: State) -> Taken
+    requires { ⌜ HasRoom state ⌝ }
+    ensures { λ r. ⌜ ((st : List ℕ) (k n : ℕ) → Ready state st → 1 ≤ k → k ≤ 3 → Tried state k n st r st) ⌝ }
+{
+    state.count += 1;
+    Taken {
+        fault: 0,
+        next: state,
+    }
+}
+
 // Takes a bracket that surely can stand in this side; a fault only says that `take` has to look.
-fn pass_bracket(state: State, kind: u8, stack: &mut [u8]) -> Taken
+fn pass_bracket(mut state: State, kind: u8, stack: &mut [u8]) -> Taken
     requires { ⌜ HasRoom state × Ready state (now stack) × (4 ≤ kind) × (kind ≤ 7) ⌝ }
-    ensures { λ r. ⌜ Tried state kind 0 (now (stack .entry)) r (now (stack .exit)) ⌝ }
+    ensures { λ r. ⌜ ((n : ℕ) → Tried state kind n (now (stack .entry)) r (now (stack .exit))) ⌝ }
 {
     let refused = Taken {
         fault: 5,
@@ -44,13 +56,16 @@ fn pass_bracket(state: State, kind: u8, stack: &mut [u8]) -> Taken
     if !taking::is_paired(kind, state.depth, stack) {
         return refused;
     }
-    let depth = taking::brackets_after(stack, state.depth, kind);
-    let next = taking::state_after(state, kind, 0, state.part, depth, false);
-    Taken { fault: 0, next }
+    state.depth = taking::brackets_after(stack, state.depth, kind);
+    state.count += 1;
+    Taken {
+        fault: 0,
+        next: state,
+    }
 }
 
 // Takes a variable that surely can stand in this side.
-fn pass_variable(state: State, kind: u8, number: u32) -> Taken
+fn pass_variable(mut state: State, kind: u8, number: u32) -> Taken
     requires { ⌜ HasRoom state × (8 ≤ kind) × (kind ≤ 10) ⌝ }
     ensures { λ r. ⌜ ((st : List ℕ) → Ready state st → Tried state kind number st r st) ⌝ }
 {
@@ -61,17 +76,48 @@ fn pass_variable(state: State, kind: u8, number: u32) -> Taken
     if 15 < number {
         return refused;
     }
-    let new = taking::is_fresh(state.set, kind, number);
-    if new {
-        if state.part == taking::RIGHT {
-            return refused;
-        }
-        if 15 < state.number {
-            return refused;
-        }
+    state.count += 1;
+    if !taking::is_fresh(state.set, kind, number) {
+        return Taken {
+            fault: 0,
+            next: state,
+        };
     }
-    let next = taking::state_after(state, kind, number, state.part, state.depth, new);
-    Taken { fault: 0, next }
+    if state.part == taking::RIGHT {
+        return refused;
+    }
+    if 15 < state.number {
+        return refused;
+    }
+    state.set = kinds::with(state.set, kinds::slot(kind, number as u8));
+    state.number += 1;
+    Taken {
+        fault: 0,
+        next: state,
+    }
+}
+
+// Takes an element that surely can stand in this side.
+fn pass_element(state: State, e: Element, stack: &mut [u8]) -> Taken
+    requires { ⌜ HasRoom state × Ready state (now stack) ⌝ }
+    ensures { λ r. ⌜ Tried state (kindOf e) (numberOf e) (now (stack .entry)) r (now (stack .exit)) ⌝ }
+{
+    match e {
+        Element::Character(_) => pass_symbol(state),
+        Element::Name(_) => pass_symbol(state),
+        Element::Macrodigit(_) => pass_symbol(state),
+        Element::Open => pass_bracket(state, kinds::OPEN, stack),
+        Element::Close => pass_bracket(state, kinds::CLOSE, stack),
+        Element::Call(_) => pass_bracket(state, kinds::CALL, stack),
+        Element::Return => pass_bracket(state, kinds::RETURN, stack),
+        Element::SVariable(n) => pass_variable(state, kinds::S_VARIABLE, n),
+        Element::TVariable(n) => pass_variable(state, kinds::T_VARIABLE, n),
+        Element::EVariable(n) => pass_variable(state, kinds::E_VARIABLE, n),
+        _ => Taken {
+            fault: 3,
+            next: state,
+        },
+    }
 }
 
 // Passes the elements of a side that surely are good, and leaves the others to `take`.
@@ -86,25 +132,11 @@ fn pass_side(bytes: &[u8], from: Cursor, start: State, stack: &mut [u8]) -> Reac
         let Reading::Got(e, next) = at.read(bytes) else {
             return Reached { at, state };
         };
-        let kind = elements::kind_of(e);
-        match kind {
-            kinds::CHARACTER | kinds::NAME | kinds::MACRODIGIT => state.count += 1,
-            kinds::OPEN | kinds::CLOSE | kinds::CALL | kinds::RETURN => {
-                let taken = pass_bracket(state, kind, stack);
-                if taken.fault != 0 {
-                    return Reached { at, state };
-                }
-                state = taken.next;
-            }
-            kinds::S_VARIABLE | kinds::T_VARIABLE | kinds::E_VARIABLE => {
-                let taken = pass_variable(state, kind, elements::number_of(e));
-                if taken.fault != 0 {
-                    return Reached { at, state };
-                }
-                state = taken.next;
-            }
-            _ => return Reached { at, state },
+        let taken = pass_element(state, e, stack);
+        if taken.fault != 0 {
+            return Reached { at, state };
         }
+        state = taken.next;
         at = next;
     }
     Reached { at, state }

@@ -8,7 +8,7 @@ use lib.ListN.{length, getD, replicate}
 use lib.Dec.{T, eqb, leb, ltb, eqb→eq}
 use borrow.Author.Tests.{ne-eqb, lt-leb}
 use Rattle.meaning.specs.Goodness.{Part, field, outside, start, left, right, after, ended, span, stands, implies, endsSide, underLimit, onRight, partAfter, sided}
-use Rattle.meaning.proofs.Truth.{T-true, and-false}
+use Rattle.meaning.proofs.Truth.{T-true, and-false, is-true, is-false, see}
 use Rattle.meaning.proofs.Tables.{every, table-at}
 use Rattle.taking.specs.Standing.{numberOf, partOf, nextOf, Leads}
 
@@ -87,6 +87,12 @@ number-small ended = omega arith
 -- ---- the table
 unfoldable pub fits : ℕ → ℕ → Bool
 fits j n = eqb n (48 + nextOf (partOf (j / 32)) (j % 32))
+
+pub next-small : (p : Part) (k : ℕ) → nextOf p k ≤ 7
+unfolding nextOf
+next-small p k =
+    let low = number-small (partAfter p k) in
+    elim (see (stands p k)) [ is-true z ↦ rw z (omega arith) | is-false z ↦ rw z (omega arith) ]
 
 pub digit : {a b : ℕ} → a ≡ 48 + b → (48 ≤ a) × (a - 48 ≡ b)
 digit e = (omega arith, omega arith)

@@ -13,8 +13,9 @@ ghost use Rattle.elements.specs.Bytes.{kindOf, numberOf};
 ghost use Rattle.taking.specs.Standing.{partOf, nextOf, Leads, stackAfter, depthAfter, fresh, limitsOf, testsOf, Movable, movedTo, Ready, Steps};
 
 // Where reading stands: the part, the open brackets, the elements of this side so far, and the left side's variables, as a set and their number.
+// Each is a whole word: with a byte among them the compiler copies the state piece by piece, and a check takes seven times as long.
 pub struct State {
-    pub part: u8,
+    pub part: usize,
     pub depth: usize,
     pub count: usize,
     pub set: u64,
@@ -28,19 +29,19 @@ pub struct Taken {
 }
 
 // The parts that the code names, by their place in the definition; NOWHERE is none of them.
-pub const FIELD: u8 = 0;
+pub const FIELD: usize = 0;
 
-pub const OUTSIDE: u8 = 1;
+pub const OUTSIDE: usize = 1;
 
-pub const START: u8 = 2;
+pub const START: usize = 2;
 
-pub const LEFT: u8 = 3;
+pub const LEFT: usize = 3;
 
-pub const RIGHT: u8 = 4;
+pub const RIGHT: usize = 4;
 
-pub const AFTER: u8 = 5;
+pub const AFTER: usize = 5;
 
-pub const NOWHERE: u8 = 7;
+pub const NOWHERE: usize = 7;
 
 // What may stand where, and the part to which it leads: a row for each part, a digit for each of 32 kinds. Kinds 10 to 1F cannot stand yet.
 const NEXT: [u8; 224] = *b"\
@@ -60,19 +61,19 @@ pub fn moves() -> [u8; 224]
 }
 
 // The table is lent, since a constant's array is laid out anew at each read.
-pub fn next_part(moves: &[u8; 224], part: u8, kind: u8) -> u8
+pub fn next_part(moves: &[u8; 224], part: usize, kind: u8) -> usize
     requires { ⌜ Leads (now moves) × (part < 7) ⌝ }
     ensures { λ r. ⌜ (kind < 32 → r ≡ nextOf (partOf part) kind) ⌝ }
 {
     if kind < 32 {
-        let i = (part as usize) * 32 + (kind as usize);
-        moves[i] - b'0'
+        let i = part * 32 + (kind as usize);
+        (moves[i] - b'0') as usize
     } else {
         NOWHERE
     }
 }
 
-pub fn between(low: u8, high: u8, n: u8) -> bool
+pub fn between(low: usize, high: usize, n: usize) -> bool
     ensures { λ r. ⌜ r ≡ span low high n ⌝ }
 {
     low <= n && n <= high
@@ -104,14 +105,14 @@ pub fn is_paired(kind: u8, depth: usize, stack: &[u8]) -> bool
 }
 
 // How many elements a side of a sentence may have.
-pub fn limit_of(part: u8) -> usize
+pub fn limit_of(part: usize) -> usize
     ensures { λ r. ⌜ ((n : ℕ) → (part ≡ 0 → ⊥) → underLimit (partOf part) n ≡ ltb n r) ⌝ }
 {
     if part == RIGHT { 400 } else { 100 }
 }
 
 // The end of a side is no element of it.
-fn has_room(part: u8, kind: u8, count: usize) -> bool
+fn has_room(part: usize, kind: u8, count: usize) -> bool
     ensures { λ r. ⌜ r ≡ (endsSide kind || underLimit (partOf part) count) ⌝ }
 {
     if ends_side(kind) {
@@ -123,7 +124,7 @@ fn has_room(part: u8, kind: u8, count: usize) -> bool
 fn is_numbered(kind: u8, number: u32) -> bool
     ensures { λ r. ⌜ r ≡ implies (span 8 10 kind) (leb number 15) ⌝ }
 {
-    if between(kinds::S_VARIABLE, kinds::E_VARIABLE, kind) {
+    if kinds::is_variable(kind) {
         number <= 15
     } else {
         true
@@ -134,7 +135,7 @@ fn is_numbered(kind: u8, number: u32) -> bool
 pub fn is_fresh(set: u64, kind: u8, number: u32) -> bool
     ensures { λ r. ⌜ r ≡ fresh set kind number ⌝ }
 {
-    if !between(kinds::S_VARIABLE, kinds::E_VARIABLE, kind) {
+    if !kinds::is_variable(kind) {
         return false;
     }
     if 15 < number {
@@ -161,7 +162,7 @@ fn limit_fault(state: State, kind: u8, new: bool) -> u8
 
 // The number of the first test that an element fails, in the order of the definition. A read element has a known kind and its whole body,
 // so that the first two tests are passed.
-fn fault_of(state: State, kind: u8, number: u32, to: u8, new: bool, stack: &[u8]) -> u8
+fn fault_of(state: State, kind: u8, number: u32, to: usize, new: bool, stack: &[u8]) -> u8
     requires { ⌜ (span 1 15 kind ≡ true) × (kind < 32 → to ≡ nextOf (partOf (state .part)) kind) × (state .depth ≤ length (now stack)) ⌝ }
     ensures { λ r. ⌜ r ≡ firstFailing 3 (testsOf state kind number (opened (state .depth) (now (stack .entry))) new) ⌝ }
 {
@@ -192,13 +193,13 @@ pub fn brackets_after(stack: &mut [u8], depth: usize, kind: u8) -> usize
     }
 }
 
-fn is_side(part: u8) -> bool
+fn is_side(part: usize) -> bool
     ensures { λ r. ⌜ r ≡ sided (partOf part) ⌝ }
 {
     part == FIELD || between(LEFT, RIGHT, part)
 }
 
-fn count_after(to: u8, kind: u8, count: usize) -> usize
+fn count_after(to: usize, kind: u8, count: usize) -> usize
     requires { ⌜ (endsSide kind ≡ false → count + 1 < 2 ^ 64) ⌝ }
     ensures { λ r. ⌜ r ≡ countAfter (partOf to) kind count ⌝ }
 {
@@ -213,7 +214,7 @@ pub fn state_after(
     mut state: State,
     kind: u8,
     number: u32,
-    to: u8,
+    to: usize,
     depth: usize,
     new: bool,
 ) -> State

@@ -17,10 +17,8 @@ returns-2 c = search needs
 
 returns-3 : tie.Need-returns-3
 returns-3 c =
-    let if1′ = c .before .before .before .before .before .if1 in
-    let pass′ = c .before .before .before .before .pass in
-    let if1 = if1′ in
-    let pass = pass′ in
+    let if1 = c .before .before .before .before .before .if1 in
+    let pass = c .before .before .before .before .pass in
     λ st found R. entered R (if1 .left) (λ z. c .before .before .if2 .left (pass .ensures .kind-is ∙ z))
     (⊎-elim (λ w. inl (w .taken)) (λ w. inr (eqb-true _ 5 (w .2 .taken))) (c .if3 .came))
 

@@ -34,30 +34,22 @@ enum-known-e c = search needs
 
 take-requires : tie.Need-take-requires Inv-loop μ-loop
 take-requires c κs =
-    let moves′ = c .before .before .before .before .before .before .before .moves in
-    let loop′ = c .before .before .before .before .before .before .loop in
-    let moves = moves′ in
-    let loop = loop′ in
+    let moves = c .before .before .before .before .before .before .before .moves in
+    let loop = c .before .before .before .before .before .before .loop in
     (moves .ensures, ready (loop .inv .0))
 
 same-length : tie.Need-same-length Inv-loop μ-loop
 same-length c =
-    let loop′ = c .before .before .before .before .before .before .before .before .before .before .before .loop in
-    let take′ = c .before .before .before .before .take in
-    let loop = loop′ in
-    let take = take′ in
+    let loop = c .before .before .before .before .before .before .before .before .before .before .before .loop in
+    let take = c .before .before .before .before .take in
     take .kept .1 .1 .1 .0 ∙ loop .inv .1
 
 returns : tie.Need-returns Inv-loop μ-loop
 returns c =
-    let loop′ = c .before .before .before .before .before .before .before .before .before .before .before .loop in
-    let read′ = c .before .before .before .before .before .before .before .before .before .before .read in
-    let e′ = c .before .before .before .before .before .before .before .before .e in
-    let take′ = c .before .before .before .before .take in
-    let loop = loop′ in
-    let read = read′ in
-    let e = e′ in
-    let take = take′ in
+    let loop = c .before .before .before .before .before .before .before .before .before .before .before .loop in
+    let read = c .before .before .before .before .before .before .before .before .before .before .read in
+    let e = c .before .before .before .before .before .before .before .before .e in
+    let take = c .before .before .before .before .take in
     sym
     (ap checkOf
     (stopped (loop .inv .0) (rw (e .given .1) at (read .ensures)) (told-by (e .given .0 .0) (got-number (rw (e .given .1) at (read .ensures))))
@@ -65,56 +57,39 @@ returns c =
 
 pass-sentences-requires : tie.Need-pass-sentences-requires Inv-loop μ-loop
 pass-sentences-requires c κs =
-    let moves′ = c .before .before .before .before .before .before .before .before .before .before .before .before .before .before .moves in
-    let loop′ = c .before .before .before .before .before .before .before .before .before .before .before .before .before .loop in
-    let read′ = c .before .before .before .before .before .before .before .before .before .before .before .before .read in
-    let e′ = c .before .before .before .before .before .before .before .before .before .before .e in
-    let take′ = c .before .before .before .before .before .before .take in
-    let moves = moves′ in
-    let loop = loop′ in
-    let read = read′ in
-    let e = e′ in
-    let take = take′ in
+    let moves = c .before .before .before .before .before .before .before .before .before .before .before .before .before .before .moves in
+    let loop = c .before .before .before .before .before .before .before .before .before .before .before .before .before .loop in
+    let read = c .before .before .before .before .before .before .before .before .before .before .before .before .read in
+    let e = c .before .before .before .before .before .before .before .before .before .before .e in
+    let take = c .before .before .before .before .before .before .take in
     let T = turned (loop .inv .0) (rw (e .given .1) at (read .ensures)) (told-by (e .given .0 .0) (got-number (rw (e .given .1) at (read .ensures))))
     (take .ensures) (c .before .before .if1 .left) (take .kept .1 .1 .1 .0) in
     (moves .ensures, ready T, T .program, T .inside)
 
 loop-less : tie.Need-loop-less Inv-loop μ-loop
 loop-less c =
-    let loop′ = c .before .before .before .before .before .before .before .before .before .before .before .before .before .before .before .before .before
+    let loop = c .before .before .before .before .before .before .before .before .before .before .before .before .before .before .before .before .before
     .before .loop in
-    let read′ = c .before .before .before .before .before .before .before .before .before .before .before .before .before .before .before .before .before .read
+    let read = c .before .before .before .before .before .before .before .before .before .before .before .before .before .before .before .before .before .read
     in
-    let e′ = c .before .before .before .before .before .before .before .before .before .before .before .before .before .before .before .e in
-    let take′ = c .before .before .before .before .before .before .before .before .before .before .before .take in
-    let if1′ = c .before .before .before .before .before .before .before .if1 in
-    let pass-sentences′ = c .before .before .before .before .pass-sentences in
-    let loop = loop′ in
-    let read = read′ in
-    let e = e′ in
-    let take = take′ in
-    let if1 = if1′ in
-    let pass-sentences = pass-sentences′ in
+    let e = c .before .before .before .before .before .before .before .before .before .before .before .before .before .before .before .e in
+    let take = c .before .before .before .before .before .before .before .before .before .before .before .take in
+    let if1 = c .before .before .before .before .before .before .before .if1 in
+    let pass-sentences = c .before .before .before .before .pass-sentences in
     let T = turned (loop .inv .0) (rw (e .given .1) at (read .ensures)) (told-by (e .given .0 .0) (got-number (rw (e .given .1) at (read .ensures))))
     (take .ensures) (if1 .left) (take .kept .1 .1 .1 .0) in
     omega (arith, got-on (rw (e .given .1) at (read .ensures)), pass-sentences .ensures .0, T .inside)
 
 loop-again : tie.Need-loop-again Inv-loop μ-loop
 loop-again c =
-    let loop′ = c .before .before .before .before .before .before .before .before .before .before .before .before .before .before .before .before .before
+    let loop = c .before .before .before .before .before .before .before .before .before .before .before .before .before .before .before .before .before
     .before .loop in
-    let read′ = c .before .before .before .before .before .before .before .before .before .before .before .before .before .before .before .before .before .read
+    let read = c .before .before .before .before .before .before .before .before .before .before .before .before .before .before .before .before .before .read
     in
-    let e′ = c .before .before .before .before .before .before .before .before .before .before .before .before .before .before .before .e in
-    let take′ = c .before .before .before .before .before .before .before .before .before .before .before .take in
-    let if1′ = c .before .before .before .before .before .before .before .if1 in
-    let pass-sentences′ = c .before .before .before .before .pass-sentences in
-    let loop = loop′ in
-    let read = read′ in
-    let e = e′ in
-    let take = take′ in
-    let if1 = if1′ in
-    let pass-sentences = pass-sentences′ in
+    let e = c .before .before .before .before .before .before .before .before .before .before .before .before .before .before .before .e in
+    let take = c .before .before .before .before .before .before .before .before .before .before .before .take in
+    let if1 = c .before .before .before .before .before .before .before .if1 in
+    let pass-sentences = c .before .before .before .before .pass-sentences in
     let T = turned (loop .inv .0) (rw (e .given .1) at (read .ensures)) (told-by (e .given .0 .0) (got-number (rw (e .given .1) at (read .ensures))))
     (take .ensures) (if1 .left) (take .kept .1 .1 .1 .0) in
     (pass-sentences .ensures .1 _ T, pass-sentences .kept .1 .1 .1 .1 .0 ∙ take .kept .1 .1 .1 .0 ∙ loop .inv .1)
@@ -124,14 +99,12 @@ enum-told c = search needs
 
 same-length-2 : tie.Need-same-length-2 Inv-loop μ-loop
 same-length-2 c =
-    let loop′ = c .before .before .before .loop in
-    let loop = loop′ in
+    let loop = c .before .before .before .loop in
     loop .inv .1
 
 returns-2 : tie.Need-returns-2 Inv-loop μ-loop
 returns-2 c =
-    let loop′ = c .before .before .before .loop in
-    let loop = loop′ in
+    let loop = c .before .before .before .loop in
     sym (ap checkOf (unknown-bad (loop .inv .0) (rw (c .enum-told .given .1) at (c .before .before .read .ensures))))
 
 enum-told-2 : tie.Need-enum-told-2 Inv-loop μ-loop
@@ -139,14 +112,12 @@ enum-told-2 c = search needs
 
 same-length-3 : tie.Need-same-length-3 Inv-loop μ-loop
 same-length-3 c =
-    let loop′ = c .before .before .before .loop in
-    let loop = loop′ in
+    let loop = c .before .before .before .loop in
     loop .inv .1
 
 returns-3 : tie.Need-returns-3 Inv-loop μ-loop
 returns-3 c =
-    let loop′ = c .before .before .before .loop in
-    let loop = loop′ in
+    let loop = c .before .before .before .loop in
     sym (ap checkOf (cut-bad (loop .inv .0) (rw (c .enum-told2 .given .1) at (c .before .before .read .ensures))))
 
 enum-told-3 : tie.Need-enum-told-3 Inv-loop μ-loop
@@ -157,16 +128,13 @@ may-end-requires c κs = search needs
 
 same-length-4 : tie.Need-same-length-4 Inv-loop μ-loop
 same-length-4 c =
-    let loop′ = c .before .before .before .before .before .loop in
-    let loop = loop′ in
+    let loop = c .before .before .before .before .before .loop in
     loop .inv .1
 
 returns-4 : tie.Need-returns-4 Inv-loop μ-loop
 returns-4 c =
-    let loop′ = c .before .before .before .before .before .loop in
-    let read′ = c .before .before .before .before .read in
-    let loop = loop′ in
-    let read = read′ in
+    let loop = c .before .before .before .before .before .loop in
+    let read = c .before .before .before .before .read in
     sym
     (ap checkOf
     (over-good (loop .inv .0) (read-over (rw (c .before .before .enum-told3 .given .1) at (read .ensures))) (c .before .may-end .ensures)
@@ -174,16 +142,13 @@ returns-4 c =
 
 same-length-5 : tie.Need-same-length-5 Inv-loop μ-loop
 same-length-5 c =
-    let loop′ = c .before .before .before .before .before .loop in
-    let loop = loop′ in
+    let loop = c .before .before .before .before .before .loop in
     loop .inv .1
 
 returns-5 : tie.Need-returns-5 Inv-loop μ-loop
 returns-5 c =
-    let loop′ = c .before .before .before .before .before .loop in
-    let read′ = c .before .before .before .before .read in
-    let loop = loop′ in
-    let read = read′ in
+    let loop = c .before .before .before .before .before .loop in
+    let read = c .before .before .before .before .read in
     sym
     (ap checkOf
     (over-early (loop .inv .0) (read-over (rw (c .before .before .enum-told3 .given .1) at (read .ensures))) (c .before .may-end .ensures)

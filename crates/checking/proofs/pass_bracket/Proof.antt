@@ -1,13 +1,13 @@
 use mathlib.Core.Logic.{⊎-elim, inl, inr}
 use native.Mathlib.Omega.{arith}
-use Rattle.taking.proofs.Tests.{granted}
-use Rattle.checking.proofs.Passing.{few, shallow, movable, refused, bracket-passed}
 use borrow.Author.Needs.{needs}
+use Rattle.taking.proofs.Tests.{granted}
+use Rattle.checking.proofs.Passing.{few, shallow, refused, bracket-passed}
 use Rattle.checking.proofs.pass_bracket.Statement.{statement}
 use Rattle.checking.proofs.pass_bracket.Tie as tie
 
 returns : tie.Need-returns
-returns c = refused _ _ _ _ (omega arith)
+returns c = λ n. refused _ _ _ _ (omega arith)
 
 is-paired-requires : tie.Need-is-paired-requires
 is-paired-requires c κs = search needs
@@ -16,34 +16,29 @@ same-length : tie.Need-same-length
 same-length c = search needs
 
 returns-2 : tie.Need-returns-2
-returns-2 c = refused _ _ _ _ (omega arith)
+returns-2 c = λ n. refused _ _ _ _ (omega arith)
 
 brackets-after-requires : tie.Need-brackets-after-requires
 brackets-after-requires c κs =
     let start = c .before .before .before .before .before .before in
     (shallow _ _ (start .pre .0) (start .pre .1), granted (c .before .before .is-paired .ensures) (c .before .if3 .left))
 
-state-after-requires : tie.Need-state-after-requires
-state-after-requires c κs =
-    let start = c .before .before .before .before .before .before .before .before .before in
-    movable (start .args .state) (start .args .kind) 0 (λ z. omega (arith, few (start .args .state) (start .pre .0)))
+add-state : tie.Need-add-state
+add-state c =
+    let start = c .before .before .before .before .before .before .before .before .before .before in
+    omega (arith, few (start .args .state) (start .pre .0))
 
 same-length-2 : tie.Need-same-length-2
 same-length-2 c = search needs
 
 returns-3 : tie.Need-returns-3
 returns-3 c =
-    let if1′ = c .before .before .before .before .before .before .before .before .if1 in
-    let is-paired′ = c .before .before .before .before .before .before .is-paired in
-    let if3′ = c .before .before .before .before .before .if3 in
-    let brackets-after′ = c .before .before .before .brackets-after in
-    let start = c .before .before .before .before .before .before .before .before .before .before in
-    let if1 = if1′ in
-    let is-paired = is-paired′ in
-    let if3 = if3′ in
-    let brackets-after = brackets-after′ in
-    bracket-passed _ (start .pre .0) _ (start .pre .2) (start .pre .3) (⊎-elim (λ w. inl (w .0 .taken, w .2 .left)) (λ w. inr (w .left)) (if1 .came)) _
-    (start .pre .1) (granted (is-paired .ensures) (if3 .left)) _ _ _ (brackets-after .ensures .0) (brackets-after .ensures .1) (c .state-after .ensures)
+    let after = c .before .before .before in
+    let paired = after .before .before .before in
+    let start = paired .before .before .before .before in
+    λ n. bracket-passed _ (start .pre .0) _ n (start .pre .2) (start .pre .3)
+    (⊎-elim (λ w. inl (w .0 .taken, w .2 .left)) (λ w. inr (w .left)) (paired .before .before .if1 .came)) _ (start .pre .1)
+    (granted (paired .is-paired .ensures) (after .before .before .if3 .left)) _ _ (after .brackets-after .ensures .0) (after .brackets-after .ensures .1)
 
 pub pass-bracket-spec : {M : Type 1} → statement M
 pass-bracket-spec =
@@ -54,6 +49,6 @@ pass-bracket-spec =
     same-length
     returns-2
     brackets-after-requires
-    state-after-requires
+    add-state
     same-length-2
     returns-3)

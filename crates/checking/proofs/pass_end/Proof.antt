@@ -29,27 +29,19 @@ returns-4 c = search needs
 
 state-after-requires : tie.Need-state-after-requires
 state-after-requires c κs =
-    let ends-side′ = c .before .before .before .before .before .before .ends-side in
-    let if2′ = c .before .before .before .before .before .if2 in
+    let ends-side = c .before .before .before .before .before .before .ends-side in
+    let if2 = c .before .before .before .before .before .if2 in
     let start = c .before .before .before .before .before .before .before .before .before .before .before in
-    let ends-side = ends-side′ in
-    let if2 = if2′ in
     end-movable (start .args .state) _ (granted (ends-side .ensures) (if2 .left))
 
 returns-5 : tie.Need-returns-5
 returns-5 c =
-    let if1′ = c .before .before .before .before .before .before .before .before .before .if1 in
-    let pass′ = c .before .before .before .before .before .before .before .before .pass in
-    let ends-side′ = c .before .before .before .before .before .before .before .ends-side in
-    let if2′ = c .before .before .before .before .before .before .if2 in
-    let next-part′ = c .before .before .before .before .before .next-part in
-    let if3′ = c .before .before .before .before .if3 in
-    let if1 = if1′ in
-    let pass = pass′ in
-    let ends-side = ends-side′ in
-    let if2 = if2′ in
-    let next-part = next-part′ in
-    let if3 = if3′ in (
+    let if1 = c .before .before .before .before .before .before .before .before .before .if1 in
+    let pass = c .before .before .before .before .before .before .before .before .pass in
+    let ends-side = c .before .before .before .before .before .before .before .ends-side in
+    let if2 = c .before .before .before .before .before .before .if2 in
+    let next-part = c .before .before .before .before .before .next-part in
+    let if3 = c .before .before .before .before .if3 in (
       omega (arith, pass .ensures .next-is),
       λ st found R. ended R (if1 .left) (pass .ensures .kind-is) (pass .ensures .next-is) (granted (ends-side .ensures) (if2 .left)) (next-part .ensures)
           (if3 .left) (c .before .before .if4 .left) (c .state-after .ensures),

@@ -27,41 +27,31 @@ between-requires c κs = search needs
 
 pass-side-requires : tie.Need-pass-side-requires Inv-loop μ-loop
 pass-side-requires c κs =
-    let enter′ = c .before .before .before .before .enter in
-    let loop′ = c .before .before .before .loop in
+    let enter = c .before .before .before .before .enter in
+    let loop = c .before .before .before .loop in
     let start = c .before .before .before .before .before .before .before in
-    let enter = enter′ in
-    let loop = loop′ in
     let C = (loop .inv .2 _ (enter .ensures _ _ (here _ _ _ _ (start .pre .1) (start .pre .2) (start .pre .3)))) in
     (told (c .before .before .between .ensures) (c .before .if1 .taken), ready C, C .inside)
 
 pass-end-requires : tie.Need-pass-end-requires Inv-loop μ-loop
 pass-end-requires c κs =
-    let enter′ = c .before .before .before .before .before .before .before .before .enter in
-    let loop′ = c .before .before .before .before .before .before .before .loop in
-    let pass-side′ = c .before .before .before .pass-side in
+    let enter = c .before .before .before .before .before .before .before .before .enter in
+    let loop = c .before .before .before .before .before .before .before .loop in
+    let pass-side = c .before .before .before .pass-side in
     let start = c .before .before .before .before .before .before .before .before .before .before .before in
-    let enter = enter′ in
-    let loop = loop′ in
-    let pass-side = pass-side′ in
     (start .pre .0, pass-side .ensures .1 _ (loop .inv .2 _ (enter .ensures _ _ (here _ _ _ _ (start .pre .1) (start .pre .2) (start .pre .3)))) .means .part)
 
 same-length : tie.Need-same-length Inv-loop μ-loop
 same-length c =
-    let loop′ = c .before .before .before .before .before .before .before .before .before .before .before .before .loop in
-    let pass-side′ = c .before .before .before .before .before .before .before .before .pass-side in
-    let loop = loop′ in
-    let pass-side = pass-side′ in
+    let loop = c .before .before .before .before .before .before .before .before .before .before .before .before .loop in
+    let pass-side = c .before .before .before .before .before .before .before .before .pass-side in
     pass-side .kept .1 .1 .1 .0 ∙ loop .inv .0
 
 returns : tie.Need-returns Inv-loop μ-loop
 returns c =
-    let enter′ = c .before .before .before .before .before .before .before .before .before .before .before .before .before .enter in
-    let loop′ = c .before .before .before .before .before .before .before .before .before .before .before .before .loop in
-    let pass-side′ = c .before .before .before .before .before .before .before .before .pass-side in
-    let enter = enter′ in
-    let loop = loop′ in
-    let pass-side = pass-side′ in
+    let enter = c .before .before .before .before .before .before .before .before .before .before .before .before .before .enter in
+    let loop = c .before .before .before .before .before .before .before .before .before .before .before .before .loop in
+    let pass-side = c .before .before .before .before .before .before .before .before .pass-side in
     (omega (arith, loop .inv .1, pass-side .ensures .0), λ found R. pass-side .ensures .1 found (loop .inv .2 found (enter .ensures _ found R)))
 
 enter-requires-2 : tie.Need-enter-requires-2 Inv-loop μ-loop
@@ -69,15 +59,11 @@ enter-requires-2 c κs = search needs
 
 loop-less : tie.Need-loop-less Inv-loop μ-loop
 loop-less c =
-    let enter′ = c .before .before .before .before .before .before .before .before .before .before .before .before .before .before .enter in
-    let loop′ = c .before .before .before .before .before .before .before .before .before .before .before .before .before .loop in
-    let pass-side′ = c .before .before .before .before .before .before .before .before .before .pass-side in
-    let pass-end′ = c .before .before .before .before .before .pass-end in
+    let enter = c .before .before .before .before .before .before .before .before .before .before .before .before .before .before .enter in
+    let loop = c .before .before .before .before .before .before .before .before .before .before .before .before .before .loop in
+    let pass-side = c .before .before .before .before .before .before .before .before .before .pass-side in
+    let pass-end = c .before .before .before .before .before .pass-end in
     let start = c .before .before .before .before .before .before .before .before .before .before .before .before .before .before .before .before .before in
-    let enter = enter′ in
-    let loop = loop′ in
-    let pass-side = pass-side′ in
-    let pass-end = pass-end′ in
     omega (
       arith,
       pass-end .ensures .1 _ _
@@ -88,12 +74,9 @@ loop-less c =
 
 loop-again : tie.Need-loop-again Inv-loop μ-loop
 loop-again c =
-    let loop′ = c .before .before .before .before .before .before .before .before .before .before .before .before .before .loop in
-    let pass-side′ = c .before .before .before .before .before .before .before .before .before .pass-side in
-    let pass-end′ = c .before .before .before .before .before .pass-end in
-    let loop = loop′ in
-    let pass-side = pass-side′ in
-    let pass-end = pass-end′ in (
+    let loop = c .before .before .before .before .before .before .before .before .before .before .before .before .before .loop in
+    let pass-side = c .before .before .before .before .before .before .before .before .before .pass-side in
+    let pass-end = c .before .before .before .before .before .pass-end in (
       pass-side .kept .1 .1 .1 .0 ∙ loop .inv .0,
       omega (arith, loop .inv .1, pass-side .ensures .0, c .before .if2 .left),
       λ found R. c .enter2 .ensures _ found (pass-end .ensures .1 _ found (pass-side .ensures .1 found (loop .inv .2 found R))),
@@ -104,8 +87,7 @@ same-length-2 c = c .before .before .loop .inv .0
 
 returns-2 : tie.Need-returns-2 Inv-loop μ-loop
 returns-2 c =
-    let enter′ = c .before .before .before .enter in
-    let enter = enter′ in
+    let enter = c .before .before .before .enter in
     (c .before .before .loop .inv .1, λ found R. c .before .before .loop .inv .2 found (enter .ensures _ found R))
 
 pub pass-sentences-spec : {M : Type 1} → statement M

@@ -15,21 +15,18 @@ is-side-requires c κs = search needs
 
 add-result : tie.Need-add-result
 add-result c =
-    let ends-side′ = c .before .before .before .ends-side in
+    let ends-side = c .before .before .before .ends-side in
     let start = c .before .before .before .before in
-    let ends-side = ends-side′ in
     omega (arith, start .pre (told (ends-side .ensures) (c .before .before .if1 .left)))
 
 returns-2 : tie.Need-returns-2
 returns-2 c =
-    let ends-side′ = c .before .before .before .ends-side in
-    let ends-side = ends-side′ in
+    let ends-side = c .before .before .before .ends-side in
     count-side _ _ _ (told (ends-side .ensures) (c .before .before .if1 .left)) (told (c .before .is-side .ensures) (c .if2 .taken))
 
 returns-3 : tie.Need-returns-3
 returns-3 c =
-    let ends-side′ = c .before .before .before .ends-side in
-    let ends-side = ends-side′ in
+    let ends-side = c .before .before .before .ends-side in
     count-idle _ _ _ (told (ends-side .ensures) (c .before .before .if1 .left)) (told (c .before .is-side .ensures) (c .if2 .left))
 
 pub count-after-spec : {M : Type 1} → statement M

@@ -17,8 +17,7 @@ returns-2 c = room-field _ _ _ (told (c .before .before .ends-side .ensures) (c 
 
 returns-3 : tie.Need-returns-3
 returns-3 c =
-    let ends-side′ = c .before .before .before .ends-side in
-    let ends-side = ends-side′ in
+    let ends-side = c .before .before .before .ends-side in
     room-else _ _ _ (told (ends-side .ensures) (c .before .before .if1 .left)) (c .limit-of .ensures _ (c .before .if2 .left))
 
 pub has-room-spec : {M : Type 1} → statement M

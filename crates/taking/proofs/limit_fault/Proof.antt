@@ -15,10 +15,8 @@ returns-2 c = limits-old _ _ _ (granted (c .before .before .has-room .ensures) (
 
 returns-3 : tie.Need-returns-3
 returns-3 c =
-    let has-room′ = c .before .before .before .before .has-room in
-    let if1′ = c .before .before .before .if1 in
-    let has-room = has-room′ in
-    let if1 = if1′ in
+    let has-room = c .before .before .before .before .has-room in
+    let if1 = c .before .before .before .if1 in
     limits-right _ _ _ (granted (has-room .ensures) (if1 .left)) (granted refl (c .before .before .if2 .left)) (c .if3 .taken)
 
 returns-4 : tie.Need-returns-4

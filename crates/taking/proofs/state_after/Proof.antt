@@ -29,9 +29,8 @@ with-requires c κs = search needs
 
 add-state : tie.Need-add-state
 add-state c =
-    let if2′ = c .before .before .before .if2 in
+    let if2 = c .before .before .before .if2 in
     let start = c .before .before .before .before .before .before .before in
-    let if2 = if2′ in
     omega (arith, start .pre .1 (if2 .taken))
 
 returns-2 : tie.Need-returns-2
@@ -42,8 +41,7 @@ returns-2 c =
 
 returns-3 : tie.Need-returns-3
 returns-3 c =
-    let count-after′ = c .before .before .before .count-after in
-    let count-after = count-after′ in
+    let count-after = c .before .before .before .count-after in
     moved-old _ _ _ _ _ _ _ (count-after .ensures) (granted (c .before .before .between .ensures) (c .before .if1 .left)) (c .if2 .left)
 
 pub state-after-spec : {M : Type 1} → statement M

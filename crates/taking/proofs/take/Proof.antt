@@ -18,8 +18,7 @@ is-fresh-requires c κs = search needs
 
 fault-of-requires : tie.Need-fault-of-requires
 fault-of-requires c κs =
-    let kind-of′ = c .before .before .before .before .kind-of in
-    let kind-of = kind-of′ in
+    let kind-of = c .before .before .before .before .kind-of in
     let start = c .before .before .before .before .before .before in
     (known-as (start .args .e) (kind-of .ensures), c .before .before .next-part .ensures, search needs)
 
@@ -28,12 +27,9 @@ same-length c = search needs
 
 returns : tie.Need-returns
 returns c =
-    let kind-of′ = c .before .before .before .before .before .before .kind-of in
-    let number-of′ = c .before .before .before .before .before .number-of in
-    let is-fresh′ = c .before .before .before .is-fresh in
-    let kind-of = kind-of′ in
-    let number-of = number-of′ in
-    let is-fresh = is-fresh′ in
+    let kind-of = c .before .before .before .before .before .before .kind-of in
+    let number-of = c .before .before .before .before .before .number-of in
+    let is-fresh = c .before .before .before .is-fresh in
     let k = kind-of .ensures in
     let n = number-of .ensures in
     rw (← k, ← n) (refused _ _ _ _ _ (is-fresh .ensures) _ (c .before .fault-of .ensures) (c .if1 .taken))
