@@ -404,25 +404,24 @@ module _ {l r : List Element} (t : Sided l r) (q : Element) (kq : kind q ≡ 11)
 
 -- GOOD PROGRAMS AS THE MACHINE TAKES THEM: each right side is balanced, and holds elements of a field and variables of the left side
 
--- each element of a right side, where vs stand on the left, and what is in l
-pub data RightSide (vs l : List Element) : List Element → Type 0 where
-  r-none : RightSide vs l []
-  r-fixed : {e : Element} {es : List Element} → fieldElement e ≡ true → RightSide vs l es → RightSide vs l (e ∷ es)
-  r-variable : {e : Element} {es : List Element} → (among e vs ≡ true) ⊎ List·Memᴰ e l → RightSide vs l es → RightSide vs l (e ∷ es)
+-- each element of a right side, behind the left side l
+pub data RightSide (l : List Element) : List Element → Type 0 where
+  r-none : RightSide l []
+  r-fixed : {e : Element} {es : List Element} → fieldElement e ≡ true → RightSide l es → RightSide l (e ∷ es)
+  r-variable : {e : Element} {es : List Element} → List·Memᴰ e l → RightSide l es → RightSide l (e ∷ es)
 
-pub record Sentence (vs s : List Element) : Type 0 where
+pub record Sentence (s : List Element) : Type 0 where
   pub balanced : brackets [] (behind 11 s) ≡ some []
-  pub known : RightSide vs (before 11 s) (behind 11 s)
+  pub known : RightSide (before 11 s) (behind 11 s)
 
--- sentences, of which the first has vs on its left already
-pub data Sentences : List Element → List (List Element) → Type 0 where
-  t-none : {vs : List Element} → Sentences vs []
-  t-more : {vs s : List Element} {ss : List (List Element)} → Sentence vs s → Sentences [] ss → Sentences vs (s ∷ ss)
+pub data Sentences : List (List Element) → Type 0 where
+  t-none : Sentences []
+  t-more : {s : List Element} {ss : List (List Element)} → Sentence s → Sentences ss → Sentences (s ∷ ss)
 
 -- behind each header there are such sentences
 pub data Functions : List Element → Type 0 where
   f-none : Functions []
-  f-more : {e : Element} {es : List Element} → (kind e ≡ 13 → Sentences [] (pieces 12 (before 14 es))) → Functions es → Functions (e ∷ es)
+  f-more : {e : Element} {es : List Element} → (kind e ≡ 13 → Sentences (pieces 12 (before 14 es))) → Functions es → Functions (e ∷ es)
 
 side-balanced : {p : Part} {o : List ℕ} {vs ws r : List Element} → Side p o vs ws r → brackets o r ≡ some []
 side-balanced side-end = brackets-nil []
@@ -441,21 +440,21 @@ fixed {e} t n v =
     let l : 8 ≤ kind e → ⊥ = λ q. never (let z : true ≡ false = rw (le-leb 8 (kind e) q, and-right (leb 1 (kind e)) _ k) at v in cc) in
     rw (and-left (leb 1 (kind e)) _ k, le-leb (kind e) 7 (omega (arith, l)), eq-eqb _ _ (t .long))
 
-right-known : {o : List ℕ} {vs ws l r : List Element} → Side right o vs ws r → ((v : Element) → among v vs ≡ true → List·Memᴰ v l) → RightSide [] l r
+right-known : {o : List ℕ} {vs ws l r : List Element} → Side right o vs ws r → ((v : Element) → among v vs ≡ true → List·Memᴰ v l) → RightSide l r
 unfolding onRight variablesAfter
 right-known side-end f = r-none
 right-known (side-more {e} t n s) f =
     elim (see (isVariable e)) [
-      | is-true v ↦ r-variable {e = e} (inr (f e (rw v at (t .met)))) (right-known s f)
+      | is-true v ↦ r-variable {e = e} (f e (rw v at (t .met))) (right-known s f)
       | is-false v ↦ r-fixed {e = e} (fixed t n v) (right-known s f)
     ]
 
-body-sentences : {es : List Element} → Body es → Sentences [] (pieces 12 (before 14 es))
+body-sentences : {es : List Element} → Body es → Sentences (pieces 12 (before 14 es))
 unfolding pieces
 body-sentences (body-end {e} {es} k) = rw (before-here 14 e es (rw k)) t-none
 body-sentences (body-more {l} {r} {rest} q s t kq ks b) =
     rw (body-split t q kq s rest ks)
-    (t-more {vs = []} {s = l ++ (q ∷ r)}
+    (t-more {s = l ++ (q ∷ r)}
     (record {
       balanced = rw (right-of t q kq) (side-balanced (t .right-side));
       known = rw (left-of t q kq, right-of t q kq) (right-known (t .right-side) (λ v a. among-mem v l (met-left t v a)));

@@ -8,7 +8,7 @@ use Prim.Native.Nat.{ℕ, _≤_}
 use native.Mathlib.Omega.{arith}
 use lib.Dec.{leb}
 use borrow.Author.Tests.{leb-true, leb-false, le-leb, lt-leb, ne-eqb}
-use Rattle.meaning.specs.Elements.{Element, kind, same, among, size, join, cut, elements}
+use Rattle.meaning.specs.Elements.{Element, kind, same, size, join, cut, elements}
 use Rattle.meaning.specs.Goodness.{badField, at, span}
 use Rattle.meaning.specs.Matching.{Assignment, plain, role, put, Env, free, seek, given}
 use Rattle.meaning.specs.Machine.{before, behind, Lead, nothing, lead, leading, Step, idle, stuck, onward, fitIn, replace, call, stepAt, step, apply, function, pieces}
@@ -32,7 +32,7 @@ tried x (s ∷ ss) =
     ]
 
 -- the sentences of a function of a good program
-pub function-sentences : (name : List ℕ) {es : List Element} {ss : List (List Element)} → Functions es → function name es ≡ some ss → Sentences [] ss
+pub function-sentences : (name : List ℕ) {es : List Element} {ss : List (List Element)} → Functions es → function name es ≡ some ss → Sentences ss
 unfolding function
 function-sentences name f-none h = never (cc)
 function-sentences name {ss} (f-more {e} {es} r t) h =
@@ -52,15 +52,14 @@ low-plain e h =
 
 -- two assignments that agree on a left side give one right side
 pub same-right : (a b : Assignment) {side r : List Element} → ((e : Element) → role e ≡ plain → a e ≡ e ∷ []) → ((e : Element) → role e ≡ plain → b e ≡ e ∷ [])
-    → ((e : Element) → List·Memᴰ e side → a e ≡ b e) → RightSide [] side r → put a r ≡ put b r
-unfolding put among
+    → ((e : Element) → List·Memᴰ e side → a e ≡ b e) → RightSide side r → put a r ≡ put b r
+unfolding put
 same-right a b f g h r-none = refl
 same-right a b f g h (r-fixed {e} k t) = rw (f e (low-plain e k), g e (low-plain e k), same-right a b f g h t)
-same-right a b f g h (r-variable (inl q) t) = never (cc)
-same-right a b f g h (r-variable {e} (inr m) t) = rw (h e m, same-right a b f g h t)
+same-right a b f g h (r-variable {e} m t) = rw (h e m, same-right a b f g h t)
 
 -- no other right side comes of them
-pub tried-only : (x : List Element) {ss : List (List Element)} {o : Option (List Element)} → Sentences [] ss → Tried x ss o → apply ss x ≡ o
+pub tried-only : (x : List Element) {ss : List (List Element)} {o : Option (List Element)} → Sentences ss → Tried x ss o → apply ss x ≡ o
 unfolding apply
 tried-only x t-none none-left = refl
 tried-only x (t-more {s} i t) (not-this f k) =
@@ -135,20 +134,19 @@ put-part a (p ∷ ps) e m s =
     elim (List·Memᴰ·cases-cons m) [ inl q ↦ rw q h | inr m′ ↦ put-part a ps e m′ t ]
 
 module _ (env : Env) (sure : Sure env) (side : List Element) (put-solid : Solid (put (given env) side)) where
-  right-solid : {r : List Element} → RightSide [] side r → Solid (put (given env) r)
-  unfolding put among Sure
+  right-solid : {r : List Element} → RightSide side r → Solid (put (given env) r)
+  unfolding put Sure
   right-solid r-none = s-none
   right-solid (r-fixed {e} h t) =
       let k : given env e ≡ e ∷ [] = given-plain env e (λ u q. rw (low-plain e h) at (sure e u q)) in
       solid-append {xs = given env e} (rw k (s-more h s-none)) (right-solid t)
-  right-solid (r-variable {e} (inl h) t) = never (cc)
-  right-solid (r-variable {e} (inr m) t) = solid-append (put-part (given env) side e m put-solid) (right-solid t)
+  right-solid (r-variable {e} m t) = solid-append (put-part (given env) side e m put-solid) (right-solid t)
 
 pub record Fine (r : List Element) : Type 0 where
   pub passes : (b : List Element) (o : List ℕ) → brackets o (r ++ b) ≡ brackets o b
   pub solid : Solid r
 
-apply-fine : {ss : List (List Element)} (x : List Element) {r : List Element} → Sentences [] ss → Solid x → apply ss x ≡ some r → Fine r
+apply-fine : {ss : List (List Element)} (x : List Element) {r : List Element} → Sentences ss → Solid x → apply ss x ≡ some r → Fine r
 unfolding apply Sure free
 apply-fine x t-none g h = never (cc)
 apply-fine x {r} (t-more {s} i t) g h =
@@ -161,7 +159,7 @@ apply-fine x {r} (t-more {s} i t) g h =
           rw e at (fine s env f i)
     ]
   where
-    fine : (s : List Element) (env : Env) → Result (before 11 s) x free env → Sentence [] s → Fine (put (given env) (behind 11 s))
+    fine : (s : List Element) (env : Env) → Result (before 11 s) x free env → Sentence s → Fine (put (given env) (behind 11 s))
     fine s env f i = record {
       passes = λ b o. put-keeps env (f .sure) (behind 11 s) b o ∙ balanced-middle (behind 11 s) b o (i .balanced);
       solid = right-solid env (f .sure) (before 11 s) (rw (fit-put (f .fit)) g) (i .known);
