@@ -86,7 +86,7 @@ pub fn measure(program: &[u8], from: usize, to: usize, binds: &[usize], limit: u
     let mut best = Longest { span: 0, at: to };
     while at < to {
         let kind = program[at];
-        let len = 1 + kinds::body_of(kind);
+        let len = kinds::length_of(kind);
         let span = span_of(program, at, len, binds);
         if limit - size < span {
             return Extent {
@@ -163,7 +163,7 @@ fn build(
     let mut at = from;
     let mut n = start;
     while at < to {
-        let len = 1 + kinds::body_of(program[at]);
+        let len = kinds::length_of(program[at]);
         n = put_element(program, at, len, arg, binds, out, n);
         at += len;
     }
@@ -310,7 +310,7 @@ pub fn note(
     let mut k = first;
     while i < to {
         let kind = program[i];
-        let len = 1 + kinds::body_of(kind);
+        let len = kinds::length_of(kind);
         k = note_one(kind, at, calls, k);
         at += span_of(program, i, len, binds);
         i += len;

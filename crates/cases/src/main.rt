@@ -71,8 +71,8 @@ fn value(left: &[u8], arg: &[u8], kind: u8, number: u8) {
         return;
     }
     match kind {
-        8 => casework::text(b" s"),
-        9 => casework::text(b" t"),
+        kinds::S_VARIABLE => casework::text(b" s"),
+        kinds::T_VARIABLE => casework::text(b" t"),
         _ => casework::text(b" e"),
     }
     casework::decimal(number as u64, b"=");
@@ -82,8 +82,8 @@ fn value(left: &[u8], arg: &[u8], kind: u8, number: u8) {
 // The values of all variables, by kind and number.
 fn values(left: &[u8], arg: &[u8]) {
     let mut v: u8 = 0;
-    while v < 48 {
-        value(left, arg, 8 + v / 16, v % 16);
+    while (v as usize) < kinds::SLOTS {
+        value(left, arg, kinds::S_VARIABLE + v / 16, v % 16);
         v += 1;
     }
 }

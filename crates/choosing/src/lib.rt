@@ -63,8 +63,8 @@ pub fn find(program: &[u8], lo: u8, hi: u8) -> Spot
     while c.at < program.len() {
         let passed = c.pass(program);
         let next = passed.next;
-        if passed.kind == 13 {
-            let header = c.read_as(program, 13);
+        if passed.kind == kinds::HEADER {
+            let header = c.read_as(program, kinds::HEADER);
             if is_name(header.number, lo, hi) {
                 return Spot::At(next);
             }
@@ -92,17 +92,17 @@ pub fn choose(program: &[u8], body: Cursor, arg: &[u8], binds: &mut [usize]) -> 
 {
     let mut c = body;
     loop {
-        if kind_at(program, c) == 14 {
+        if kind_at(program, c) == kinds::FUNCTION_END {
             return Choice {
                 found: false,
                 from: 0,
                 to: 0,
             };
         }
-        let equals = seek_kind(program, c, 11);
-        let right = equals.read_as(program, 11);
-        let end = seek_kind(program, right.next, 12);
-        let next = end.read_as(program, 12);
+        let equals = seek_kind(program, c, kinds::EQUALS);
+        let right = equals.read_as(program, kinds::EQUALS);
+        let end = seek_kind(program, right.next, kinds::SENTENCE_END);
+        let next = end.read_as(program, kinds::SENTENCE_END);
         let at = c.at;
         let mid = equals.at;
         if matching::match_left(&program[at..mid], arg, binds) {
@@ -131,10 +131,10 @@ fn index_one(program: &[u8], c: Cursor, spots: &mut [u16]) -> Cursor
 {
     let passed = c.pass(program);
     let next = passed.next;
-    if passed.kind != 13 {
+    if passed.kind != kinds::HEADER {
         return next;
     }
-    let header = c.read_as(program, 13);
+    let header = c.read_as(program, kinds::HEADER);
     let slot = slot_of(header.number as usize);
     if spots[slot] == 0 {
         spots[slot] = (c.at + 1) as u16;
@@ -172,7 +172,7 @@ pub fn look_up(program: &[u8], lo: u8, hi: u8, indexed: &mut [usize], spots: &mu
         return Spot::Nowhere;
     }
     let c = Cursor { at: place - 1 };
-    let first = c.read_as(program, 13);
+    let first = c.read_as(program, kinds::HEADER);
     let body = first.next;
     if is_name(first.number, lo, hi) {
         return Spot::At(body);

@@ -79,7 +79,7 @@ fn before_bracketed(value: &[u8], arg: &[u8]) -> Ahead
     ensures { λ r. ⌜ Sound r (now (arg .entry)) (Standing (4 ∷ now (value .entry)) false (now (arg .entry))) ⌝ }
 {
     Ahead {
-        first: 4,
+        first: kinds::OPEN,
         second: byte_of(value, 0),
         third: byte_of(value, 1),
         earliest: 0,
@@ -97,12 +97,12 @@ fn before_bracket(left: &[u8], j: usize, arg: &[u8], binds: &[usize], settled: u
     let next = passed.next;
     let after = next.at;
     let slot = settling::slot_at(left, j, passed.kind);
-    if slot == 48 {
+    if slot == kinds::SLOTS {
         return before_bracketed(&left[j..after], arg);
     }
     if kinds::has(settled, slot) {
         let from = binds[slot];
-        let to = binds[slot + 48];
+        let to = binds[slot + kinds::SLOTS];
         return before_bracketed(&arg[from..to], arg);
     }
     before_bracketed(&left[j..j], arg)
@@ -125,17 +125,17 @@ pub fn foresee(
     let passed = c.pass(left);
     let next = passed.next;
     let after = next.at;
-    if passed.kind == 4 {
+    if passed.kind == kinds::OPEN {
         return before_bracket(left, after, arg, binds, settled);
     }
     let last = after == left.len();
     let slot = settling::slot_at(left, j, passed.kind);
-    if slot == 48 {
+    if slot == kinds::SLOTS {
         return before_value(&left[j..after], last, arg);
     }
     if kinds::has(settled, slot) {
         let from = binds[slot];
-        let to = binds[slot + 48];
+        let to = binds[slot + kinds::SLOTS];
         return before_value(&arg[from..to], last, arg);
     }
     if last {
@@ -144,7 +144,7 @@ pub fn foresee(
             let half = (arg.len() - at) / 2;
             return between(arg.len() - half, at + half);
         }
-        if slot < 16 {
+        if slot < kinds::T_SLOTS {
             return between(less(arg.len(), 5), arg.len());
         }
     }
@@ -190,7 +190,7 @@ fn can_end(w: Ahead, arg: &[u8], at: usize) -> bool
 fn stop_of(w: Ahead) -> u16
     ensures { λ r. ⌜ (w .first ≡ 1 → r ≡ w .second) ⌝ }
 {
-    if w.first == 1 {
+    if w.first == kinds::CHARACTER {
         return w.second;
     }
     256

@@ -124,7 +124,7 @@ fn run_noting(
     requires { ⌜ length (now field) ≤ 2 * length (now calls) ⌝ }
     ensures { λ r. ⌜ (machine (now (program .entry)) (now (field .entry)) used (now (scratch .entry)) budget ≡ answer (r .code) (r .steps) (r .used) (r .place) (now (field .exit)) (now (scratch .exit))) × (r .code ≤ 4) ⌝ }
 {
-    let mut binds = [0usize; 96];
+    let mut binds = [0usize; kinds::BINDS];
     let mut indexed = [0usize; 1];
     let mut spots = [0u16; 8192];
     let end = steps_from(

@@ -4,7 +4,7 @@ use mathlib.Core.List.{List, _∷_, _++_, append-assoc, append-nil}
 use Prim.Native.Nat.{ℕ, _+_, _-_, _≤_}
 use native.Mathlib.Omega.{arith}
 use lib.ListN.{length, getD, take, drop, length-drop, take-append-drop, drop-of-length-le}
-use lib.Seq.{paste, take-paste, drop-paste, drop-drop, take-add, take-take, take-append-le, take-all, drop-at, getD-drop, getD-at, length-take-le}
+use lib.Seq.{paste, take-paste, drop-paste, drop-drop, take-add, take-take, take-append-le, drop-at, getD-drop, getD-at, length-take-le}
 use Rattle.meaning.specs.Elements.{Element, kind, cut, join, size}
 use Rattle.meaning.proofs.Cutting.{join-cut, join-append}
 use Rattle.scanning.specs.State.{fieldOf, fieldAt}
@@ -78,9 +78,3 @@ pub brought-up : (f f′ : List ℕ) (used : ℕ) → used ≤ length f → f′
 unfolding fieldAt fieldOf
 brought-up f f′ used h e =
     ap (cut 0) (up-back f f′ 0 (length f) used (omega arith) (omega arith) e ∙ ap {B = List ℕ} (λ l. take used f ++ l) (drop-of-length-le f {i = length f} (omega arith)) ∙ append-nil (take used f))
-
--- and the field as it goes
-pub brought-down : (f f′ : List ℕ) (lo hi : ℕ) → lo ≤ hi → hi ≤ length f → f′ ≡ paste f lo (drop hi f) (length f - hi) → fieldOf f′ (lo + (length f - hi)) ≡ fieldAt f lo hi
-unfolding fieldAt fieldOf
-brought-down f f′ lo hi g h e =
-    ap (cut 0) (down-front f f′ lo hi (length f - hi) g (omega arith) e ∙ ap {B = List ℕ} (λ l. take lo f ++ l) (take-all (length f - hi) (drop hi f) (omega (arith, length-drop hi f))))

@@ -184,10 +184,10 @@ module _ (f : List ℕ) (lo hi read depth top : ℕ) (calls : List ℕ) (good : 
               let (k, b, z, l) = whole-first g rest (g ∷ rest) refl (whole-right (calm (s .unread)) (g ∷ rest) _ i unread-whole) in
               never (omega (arith, total, place-is, ap size i, size-append (calm (s .unread)) (g ∷ rest), size-cons g rest, ap length z))
 
-      pub read-on : (at ≡ length f → ⊥) → length f ≤ 2 * length calls → (n : ℕ) → n ≡ body (getD f at 0) → Reached f lo hi at (at + 1 + n) depth top calls
-      read-on ne room n qn = go (calmed (s .unread))
+      pub read-on : (at ≡ length f → ⊥) → length f ≤ 2 * length calls → (next : ℕ) → next ≡ at + 1 + body (getD f at 0) → Reached f lo hi at next depth top calls
+      read-on ne room next next-is = go (calmed (s .unread))
         where
-          go : Calmed (s .unread) → Reached f lo hi at (at + 1 + n) depth top calls
+          go : Calmed (s .unread) → Reached f lo hi at next depth top calls
           go (all-calm c n6 n7) = absurd (ne (omega (arith, total, place-is, ap size c)))
           go (then-call g rest i c n6 n7) =
               let plain : List Element = s .known ++ calm (s .unread) in

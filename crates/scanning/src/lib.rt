@@ -70,7 +70,10 @@ fn next_mark(field: &[u8], mut s: Spread, calls: &[u16]) -> Mark
             spread: s,
         };
     }
-    s.read = at + 1 + kinds::body_of(field[at]);
+    let c = Cursor { at };
+    let passed = c.pass(field);
+    let next = passed.next;
+    s.read = next.at;
     Mark {
         here: true,
         at,

@@ -14,8 +14,8 @@ pub fn slot_at(left: &[u8], at: usize, kind: u8) -> usize
     requires { ⌜ LeftAt (now left) at × (kind ≡ getD (now left) at 0) ⌝ }
     ensures { λ r. ⌜ SlotAt (now (left .entry)) at r ⌝ }
 {
-    if kind < 8 {
-        return 48;
+    if kind < kinds::S_VARIABLE {
+        return kinds::SLOTS;
     }
     kinds::slot(kind, left[at + 1])
 }
@@ -63,18 +63,18 @@ pub fn only_end(
     requires { ⌜ Single (now left) i j slot (now arg) at (now binds) settled ⌝ }
     ensures { λ r. ⌜ OnlyEnd (now (left .entry)) i j (now (arg .entry)) at (now (binds .entry)) settled r ⌝ }
 {
-    if slot == 48 {
+    if slot == kinds::SLOTS {
         return element_end(left, i, j, arg, at);
     }
     if kinds::has(settled, slot) {
         let from = binds[slot];
-        let to = binds[slot + 48];
-        if slot < 16 {
+        let to = binds[slot + kinds::SLOTS];
+        if slot < kinds::T_SLOTS {
             return element_end(arg, from, to, arg, at);
         }
         return value_end(&arg[from..to], arg, at);
     }
-    if slot < 16 {
+    if slot < kinds::T_SLOTS {
         return elements::symbol_end(arg, at);
     }
     elements::term_end(arg, at)
@@ -85,14 +85,14 @@ pub fn settle(binds: &mut [usize], settled: u64, slot: usize, from: usize, to: u
     requires { ⌜ Settling (now binds) slot ⌝ }
     ensures { λ r. ⌜ Settled (now (binds .entry)) settled slot from to (now (binds .exit)) r ⌝ }
 {
-    if slot == 48 {
+    if slot == kinds::SLOTS {
         return settled;
     }
     if kinds::has(settled, slot) {
         return settled;
     }
     binds[slot] = from;
-    binds[slot + 48] = to;
+    binds[slot + kinds::SLOTS] = to;
     kinds::with(settled, slot)
 }
 
@@ -101,10 +101,10 @@ pub fn is_fresh_e(slot: usize, settled: u64) -> bool
     requires { ⌜ slot ≤ 48 ⌝ }
     ensures { λ r. ⌜ Told r (FreshE slot settled) ⌝ }
 {
-    if slot < 32 {
+    if slot < kinds::E_SLOTS {
         return false;
     }
-    if slot == 48 {
+    if slot == kinds::SLOTS {
         return false;
     }
     !kinds::has(settled, slot)

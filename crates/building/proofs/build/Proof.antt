@@ -1,5 +1,5 @@
-use mathlib.Core.Path.{refl, ap}
-use Prim.Native.Nat.{_+_, _-_}
+use mathlib.Core.Path.{refl}
+use Prim.Native.Nat.{_-_}
 use native.Mathlib.Omega.{arith}
 use Rattle.building.proofs.Spans.{walk}
 use Rattle.building.proofs.Filling.{Building, build-room, building-more, built}
@@ -18,14 +18,11 @@ loop-holds c =
     let start = c .before .before .before .before in
     record { upto = start .pre .0 .0; whole = start .pre .1 .0; ready = start .pre .1 .1 .0; long = refl; n-so = refl; so = refl }
 
-shared-slice-read-body-of : tie.Need-shared-slice-read-body-of Inv-loop μ-loop
-shared-slice-read-body-of c = search needs
+shared-slice-read-length-of : tie.Need-shared-slice-read-length-of Inv-loop μ-loop
+shared-slice-read-length-of c = search needs
 
-body-of-requires : tie.Need-body-of-requires Inv-loop μ-loop
-body-of-requires c κs = search needs
-
-add-len : tie.Need-add-len Inv-loop μ-loop
-add-len c = search needs
+length-of-requires : tie.Need-length-of-requires Inv-loop μ-loop
+length-of-requires c κs = search needs
 
 put-element-requires : tie.Need-put-element-requires Inv-loop μ-loop
 put-element-requires c κs =
@@ -33,7 +30,7 @@ put-element-requires c κs =
     let loop = c .before .before .before .before .loop in
     let loop-test = c .before .before .before .loop-test in
     let i = loop .inv in
-    let w = walk _ _ _ _ _ (start .pre .0 .1) (loop-test .taken) (i .whole) (i .ready) _ (ap (λ n. 1 + n) (c .before .body-of .ensures .0)) in
+    let w = walk _ _ _ _ _ (start .pre .0 .1) (loop-test .taken) (i .whole) (i .ready) _ (c .before .length-of .ensures .0) in
     (w .known, (start .pre .1 .1 .1 .0, build-room _ _ _ _ _ _ _ _ _ _ i _ w (start .pre .1 .1 .1 .1)))
 
 add-at : tie.Need-add-at Inv-loop μ-loop
@@ -41,9 +38,9 @@ add-at c =
     let start = c .before .before .before .before .before .before .before .before .before .before .before .before in
     let loop = c .before .before .before .before .before .before .before .loop in
     let loop-test = c .before .before .before .before .before .before .loop-test in
-    let body-of = c .before .before .before .before .body-of in
+    let length-of = c .before .before .before .before .length-of in
     let i = loop .inv in
-    let w = walk _ _ _ _ _ (start .pre .0 .1) (loop-test .taken) (i .whole) (i .ready) _ (ap (λ n. 1 + n) (body-of .ensures .0)) in
+    let w = walk _ _ _ _ _ (start .pre .0 .1) (loop-test .taken) (i .whole) (i .ready) _ (length-of .ensures .0) in
     let k = w .within in
     omega arith
 
@@ -52,9 +49,9 @@ loop-less c =
     let start = c .before .before .before .before .before .before .before .before .before .before .before .before in
     let loop = c .before .before .before .before .before .before .before .loop in
     let loop-test = c .before .before .before .before .before .before .loop-test in
-    let body-of = c .before .before .before .before .body-of in
+    let length-of = c .before .before .before .before .length-of in
     let i = loop .inv in
-    let w = walk _ _ _ _ _ (start .pre .0 .1) (loop-test .taken) (i .whole) (i .ready) _ (ap (λ n. 1 + n) (body-of .ensures .0)) in
+    let w = walk _ _ _ _ _ (start .pre .0 .1) (loop-test .taken) (i .whole) (i .ready) _ (length-of .ensures .0) in
     let k = w .within in
     let s = w .some in
     omega arith
@@ -64,9 +61,9 @@ loop-again c =
     let start = c .before .before .before .before .before .before .before .before .before .before .before .before in
     let loop = c .before .before .before .before .before .before .before .loop in
     let loop-test = c .before .before .before .before .before .before .loop-test in
-    let body-of = c .before .before .before .before .body-of in
+    let length-of = c .before .before .before .before .length-of in
     let i = loop .inv in
-    let w = walk _ _ _ _ _ (start .pre .0 .1) (loop-test .taken) (i .whole) (i .ready) _ (ap (λ n. 1 + n) (body-of .ensures .0)) in
+    let w = walk _ _ _ _ _ (start .pre .0 .1) (loop-test .taken) (i .whole) (i .ready) _ (length-of .ensures .0) in
     let u = c .before .before .put-element .ensures in
     building-more _ _ _ _ _ _ _ _ _ _ i _ w _ _ (u .0) (u .1) (c .before .before .put-element .kept .1 .1 .1 .1 .1 .0)
 
@@ -85,9 +82,8 @@ build-spec =
     Inv-loop
     μ-loop
     loop-holds
-    shared-slice-read-body-of
-    body-of-requires
-    add-len
+    shared-slice-read-length-of
+    length-of-requires
     put-element-requires
     add-at
     loop-less

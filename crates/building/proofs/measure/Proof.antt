@@ -1,6 +1,5 @@
-use mathlib.Core.Path.{ap}
 use mathlib.Core.List.{List}
-use Prim.Native.Nat.{ℕ, _+_, _-_, _≤_}
+use Prim.Native.Nat.{ℕ, _-_, _≤_}
 use native.Mathlib.Omega.{arith}
 use lib.ListN.{length}
 use Rattle.building.proofs.Spans.{walk}
@@ -21,18 +20,15 @@ loop-holds c = let g = c .before .before .pre .0 in (g .arg, g .short, measuring
 shared-slice-read-kind : tie.Need-shared-slice-read-kind Inv-loop μ-loop
 shared-slice-read-kind c = search needs
 
-body-of-requires : tie.Need-body-of-requires Inv-loop μ-loop
-body-of-requires c κs = search needs
-
-add-len : tie.Need-add-len Inv-loop μ-loop
-add-len c = search needs
+length-of-requires : tie.Need-length-of-requires Inv-loop μ-loop
+length-of-requires c κs = search needs
 
 span-of-requires : tie.Need-span-of-requires Inv-loop μ-loop
 span-of-requires c κs =
     let start = c .before .before .before .before .before .before in
     let loop = c .before .before .before .loop in
     let i = loop .inv .2 in
-    let w = walk _ _ _ _ _ (start .pre .0 .fits) (c .before .before .loop-test .taken) (i .whole) (i .ready) _ (ap (λ n. 1 + n) (c .body-of .ensures .0)) in
+    let w = walk _ _ _ _ _ (start .pre .0 .fits) (c .before .before .loop-test .taken) (i .whole) (i .ready) _ (c .length-of .ensures .0) in
     (record { arg = loop .inv .0; known = w .known }, start .pre .1 .1 .0)
 
 sub-if1 : tie.Need-sub-if1 Inv-loop μ-loop
@@ -47,7 +43,7 @@ returns c =
     let loop = c .before .before .before .before .before .loop in
     let loop-test = c .before .before .before .before .loop-test in
     let i = loop .inv .2 in
-    let w = walk _ _ _ _ _ (start .pre .0 .fits) (loop-test .taken) (i .whole) (i .ready) _ (ap (λ n. 1 + n) (c .before .before .body-of .ensures .0)) in
+    let w = walk _ _ _ _ _ (start .pre .0 .fits) (loop-test .taken) (i .whole) (i .ready) _ (c .before .before .length-of .ensures .0) in
     measured-no _ _ _ _ _ _ _ _ _ _ i _ w (rw (← c .before .span-of .ensures) (c .if1 .taken))
 
 counted-requires : tie.Need-counted-requires Inv-loop μ-loop
@@ -73,9 +69,9 @@ add-at c =
     let start = c .before .before .before .before .before .before .before .before .before .before in
     let loop = c .before .before .before .before .before .before .before .loop in
     let loop-test = c .before .before .before .before .before .before .loop-test in
-    let body-of = c .before .before .before .before .body-of in
+    let length-of = c .before .before .before .before .length-of in
     let i = loop .inv .2 in
-    let w = walk _ _ _ _ _ (start .pre .0 .fits) (loop-test .taken) (i .whole) (i .ready) _ (ap (λ n. 1 + n) (body-of .ensures .0)) in
+    let w = walk _ _ _ _ _ (start .pre .0 .fits) (loop-test .taken) (i .whole) (i .ready) _ (length-of .ensures .0) in
     let k = w .within in
     omega arith
 
@@ -84,9 +80,9 @@ loop-less c =
     let start = c .before .before .before .before .before .before .before .before .before .before in
     let loop = c .before .before .before .before .before .before .before .loop in
     let loop-test = c .before .before .before .before .before .before .loop-test in
-    let body-of = c .before .before .before .before .body-of in
+    let length-of = c .before .before .before .before .length-of in
     let i = loop .inv .2 in
-    let w = walk _ _ _ _ _ (start .pre .0 .fits) (loop-test .taken) (i .whole) (i .ready) _ (ap (λ n. 1 + n) (body-of .ensures .0)) in
+    let w = walk _ _ _ _ _ (start .pre .0 .fits) (loop-test .taken) (i .whole) (i .ready) _ (length-of .ensures .0) in
     let k = w .within in
     let s = w .some in
     omega arith
@@ -96,10 +92,10 @@ loop-again c =
     let start = c .before .before .before .before .before .before .before .before .before .before in
     let loop = c .before .before .before .before .before .before .before .loop in
     let loop-test = c .before .before .before .before .before .before .loop-test in
-    let body-of = c .before .before .before .before .body-of in
+    let length-of = c .before .before .before .before .length-of in
     let span-of = c .before .before .before .span-of in
     let i = loop .inv .2 in
-    let w = walk _ _ _ _ _ (start .pre .0 .fits) (loop-test .taken) (i .whole) (i .ready) _ (ap (λ n. 1 + n) (body-of .ensures .0)) in (
+    let w = walk _ _ _ _ _ (start .pre .0 .fits) (loop-test .taken) (i .whole) (i .ready) _ (length-of .ensures .0) in (
       loop .inv .0,
       loop .inv .1,
       rw (span-of .ensures)
@@ -120,8 +116,7 @@ measure-spec =
     μ-loop
     loop-holds
     shared-slice-read-kind
-    body-of-requires
-    add-len
+    length-of-requires
     span-of-requires
     sub-if1
     returns

@@ -1,6 +1,6 @@
-use mathlib.Core.Path.{refl, ap}
+use mathlib.Core.Path.{refl}
 use mathlib.Core.List.{List}
-use Prim.Native.Nat.{ℕ, _+_, _-_}
+use Prim.Native.Nat.{ℕ, _-_}
 use native.Mathlib.Omega.{arith}
 use Rattle.building.proofs.Spans.{walk}
 use Rattle.building.proofs.Filling.{Noting, on-room, note-room, noting-more, noted, call-span}
@@ -23,11 +23,8 @@ loop-holds c =
 shared-slice-read-kind : tie.Need-shared-slice-read-kind Inv-loop μ-loop
 shared-slice-read-kind c = search needs
 
-body-of-requires : tie.Need-body-of-requires Inv-loop μ-loop
-body-of-requires c κs = search needs
-
-add-len : tie.Need-add-len Inv-loop μ-loop
-add-len c = search needs
+length-of-requires : tie.Need-length-of-requires Inv-loop μ-loop
+length-of-requires c κs = search needs
 
 note-one-requires : tie.Need-note-one-requires Inv-loop μ-loop
 note-one-requires c κs =
@@ -35,7 +32,7 @@ note-one-requires c κs =
     let loop = c .before .before .before .before .loop in
     let loop-test = c .before .before .before .loop-test in
     let i = loop .inv .1 in
-    let w = walk _ _ _ _ _ (start .pre .0 .fits) (loop-test .taken) (i .whole) (i .ready) _ (ap (λ n. 1 + n) (c .before .body-of .ensures .0)) in
+    let w = walk _ _ _ _ _ (start .pre .0 .fits) (loop-test .taken) (i .whole) (i .ready) _ (c .before .length-of .ensures .0) in
     let q = start .pre .1 .1 .1 in
     λ z. note-room _ _ _ _ _ _ _ _ _ _ _ _ i _ w (q .0) (q .1) z (call-span _ _ _ _ _ _ w z)
 
@@ -44,9 +41,9 @@ span-of-requires c κs =
     let start = c .before .before .before .before .before .before .before .before .before .before .before in
     let loop = c .before .before .before .before .before .before .before .loop in
     let loop-test = c .before .before .before .before .before .before .loop-test in
-    let body-of = c .before .before .before .before .body-of in
+    let length-of = c .before .before .before .before .length-of in
     let i = loop .inv .1 in
-    let w = walk _ _ _ _ _ (start .pre .0 .fits) (loop-test .taken) (i .whole) (i .ready) _ (ap (λ n. 1 + n) (body-of .ensures .0)) in
+    let w = walk _ _ _ _ _ (start .pre .0 .fits) (loop-test .taken) (i .whole) (i .ready) _ (length-of .ensures .0) in
     (record { arg = loop .inv .0; known = w .known }, start .pre .1 .1 .0 .0)
 
 add-at : tie.Need-add-at Inv-loop μ-loop
@@ -54,9 +51,9 @@ add-at c =
     let start = c .before .before .before .before .before .before .before .before .before .before .before .before in
     let loop = c .before .before .before .before .before .before .before .before .loop in
     let loop-test = c .before .before .before .before .before .before .before .loop-test in
-    let body-of = c .before .before .before .before .before .body-of in
+    let length-of = c .before .before .before .before .before .length-of in
     let i = loop .inv .1 in
-    let w = walk _ _ _ _ _ (start .pre .0 .fits) (loop-test .taken) (i .whole) (i .ready) _ (ap (λ n. 1 + n) (body-of .ensures .0)) in
+    let w = walk _ _ _ _ _ (start .pre .0 .fits) (loop-test .taken) (i .whole) (i .ready) _ (length-of .ensures .0) in
     let q = on-room _ _ _ _ _ _ _ _ _ _ _ _ i _ w (start .pre .1 .1 .1 .0) in
     let e = c .span-of .ensures in
     omega arith
@@ -66,9 +63,9 @@ add-i c =
     let start = c .before .before .before .before .before .before .before .before .before .before .before .before in
     let loop = c .before .before .before .before .before .before .before .before .loop in
     let loop-test = c .before .before .before .before .before .before .before .loop-test in
-    let body-of = c .before .before .before .before .before .body-of in
+    let length-of = c .before .before .before .before .before .length-of in
     let i = loop .inv .1 in
-    let w = walk _ _ _ _ _ (start .pre .0 .fits) (loop-test .taken) (i .whole) (i .ready) _ (ap (λ n. 1 + n) (body-of .ensures .0)) in
+    let w = walk _ _ _ _ _ (start .pre .0 .fits) (loop-test .taken) (i .whole) (i .ready) _ (length-of .ensures .0) in
     let k = w .within in
     omega arith
 
@@ -77,9 +74,9 @@ loop-less c =
     let start = c .before .before .before .before .before .before .before .before .before .before .before .before in
     let loop = c .before .before .before .before .before .before .before .before .loop in
     let loop-test = c .before .before .before .before .before .before .before .loop-test in
-    let body-of = c .before .before .before .before .before .body-of in
+    let length-of = c .before .before .before .before .before .length-of in
     let i = loop .inv .1 in
-    let w = walk _ _ _ _ _ (start .pre .0 .fits) (loop-test .taken) (i .whole) (i .ready) _ (ap (λ n. 1 + n) (body-of .ensures .0)) in
+    let w = walk _ _ _ _ _ (start .pre .0 .fits) (loop-test .taken) (i .whole) (i .ready) _ (length-of .ensures .0) in
     let k = w .within in
     let s = w .some in
     omega arith
@@ -89,10 +86,10 @@ loop-again c =
     let start = c .before .before .before .before .before .before .before .before .before .before .before .before in
     let loop = c .before .before .before .before .before .before .before .before .loop in
     let loop-test = c .before .before .before .before .before .before .before .loop-test in
-    let body-of = c .before .before .before .before .before .body-of in
+    let length-of = c .before .before .before .before .before .length-of in
     let note-one = c .before .before .before .note-one in
     let i = loop .inv .1 in
-    let w = walk _ _ _ _ _ (start .pre .0 .fits) (loop-test .taken) (i .whole) (i .ready) _ (ap (λ n. 1 + n) (body-of .ensures .0)) in
+    let w = walk _ _ _ _ _ (start .pre .0 .fits) (loop-test .taken) (i .whole) (i .ready) _ (length-of .ensures .0) in
     let u = note-one .ensures in
     (loop .inv .0, rw (c .span-of .ensures) (noting-more _ _ _ _ _ _ _ _ _ _ _ _ i _ w _ _ (u .0) (u .1)))
 
@@ -112,8 +109,7 @@ note-spec =
     μ-loop
     loop-holds
     shared-slice-read-kind
-    body-of-requires
-    add-len
+    length-of-requires
     note-one-requires
     span-of-requires
     add-at

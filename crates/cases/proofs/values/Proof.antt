@@ -12,6 +12,9 @@ abbrev μ-loop : tie.MeasureT-loop
 loop-holds : tie.Need-loop-holds Inv-loop μ-loop
 loop-holds c = search needs
 
+cast-loop : tie.Need-cast-loop Inv-loop μ-loop
+cast-loop c = search needs
+
 add-value : tie.Need-add-value Inv-loop μ-loop
 add-value c = search needs
 
@@ -37,6 +40,7 @@ values-spec =
     Inv-loop
     μ-loop
     loop-holds
+    cast-loop
     add-value
     value-requires
     add-v
