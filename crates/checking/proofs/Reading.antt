@@ -26,9 +26,9 @@ use Rattle.taking.proofs.Stepping.{told-by, told-as}
 use Rattle.elements.specs.declared.Element.{Element as Read}
 use Rattle.elements.specs.declared.Element.the-variants.{Equals, SentenceEnd}
 use Rattle.elements.specs.declared.Cursor.{Cursor}
-use Rattle.elements.specs.declared.Reading.the-variants.{Got, Unknown, Cut, End}
+use Rattle.elements.specs.declared.Reading.the-variants.{Got, Unknown, Cut}
 use Rattle.elements.specs.Bytes.{kindOf, numberOf, bytesOf}
-use Rattle.elements.specs.Reading.{ReadAt, over, got, unknown, short}
+use Rattle.elements.specs.Reading.{ReadAt, got, unknown, short}
 use Rattle.elements.proofs.Places.{split-size, bare-at}
 use Rattle.checking.proofs.Passing.{end-plain, end-kind, good-steps, tells-plain}
 
@@ -56,9 +56,6 @@ module _ {bs : List ℕ} {i : ℕ} {y : Read} {c : Cursor} where
 
   got-long : ReadAt bs i (Got y c) → i + length (bytesOf y) ≡ c .at
   got-long (got n l s) = omega (arith, split-size s, one-long (bytesOf y))
-
-pub read-over : {bs : List ℕ} {i : ℕ} → ReadAt bs i End → length bs ≤ i
-read-over (over l) = l
 
 -- 0B and 0C are read as they are
 end-read : (bs : List ℕ) (i : ℕ) → i < length bs → (k : ℕ) → getD bs i 0 ≡ k → endsSide k ≡ true → (u : Read) × ReadAt bs i (Got u (record { at = i + 1 })) × (kindOf u ≡ k)
@@ -222,10 +219,16 @@ module _ {found : Option ℕ} {bs st : List ℕ} {i : ℕ} {q : State} (R : Read
       let m : i + 1 ≡ next = omega (arith, en, ap body ek, b .2) in
       rw m at (turned R A I S refl refl)
 
-  -- an element that was passed
-  pub passed-on : {y : Read} {c : Cursor} → ReadAt bs i (Got y c) → {r : Taken} {st′ : List ℕ} → Tried q (kindOf y) (numberOf y) st r st′ → r .fault ≡ 0 → length st′ ≡ length st
-      → Reading found bs (c .at) (r .next) st′
-  passed-on {y} A T f l = turned R A (told-by y (got-number A)) (T .steps f) f l
+  -- an element that was taken, or passed
+  module _ {y : Read} {c : Cursor} (A : ReadAt bs i (Got y c)) {r : Taken} {st′ : List ℕ} where
+    pub taken-bad : Steps q (kindOf y) (numberOf y) st r st′ → (r .fault ≡ 0 → ⊥) → found ≡ some i
+    taken-bad S = stopped R A (told-by y (got-number A)) S
+
+    pub taken-on : Steps q (kindOf y) (numberOf y) st r st′ → r .fault ≡ 0 → length st′ ≡ length st → Reading found bs (c .at) (r .next) st′
+    taken-on S = turned R A (told-by y (got-number A)) S
+
+    pub passed-on : Tried q (kindOf y) (numberOf y) st r st′ → r .fault ≡ 0 → length st′ ≡ length st → Reading found bs (c .at) (r .next) st′
+    passed-on T f = taken-on (T .steps f) f
 
   pub same-stack : {st′ : List ℕ} → st′ ≡ st → Reading found bs i q st′
   same-stack e = rw e R

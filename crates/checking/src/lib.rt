@@ -228,26 +228,23 @@ fn first_bad(program: &[u8], stack: &mut [u8]) -> Check
         set: 0,
         number: 0,
     };
-    loop {
-        match at.read(program) {
-            Reading::Got(e, next) => {
-                let taken = taking::take(state, e, &moves, stack);
-                if taken.fault != 0 {
-                    return Check::Bad(at.at);
-                }
-                let passed = pass_sentences(program, next, taken.next, &moves, stack);
-                at = passed.at;
-                state = passed.state;
-            }
-            Reading::Unknown => return Check::Bad(at.at),
-            Reading::Cut => return Check::Bad(at.at),
-            Reading::End => {
-                if taking::may_end(state) {
-                    return Check::Good;
-                }
-                return Check::Bad(at.at);
-            }
+    while at.at < program.len() {
+        let bad = Check::Bad(at.at);
+        let Reading::Got(e, next) = at.read(program) else {
+            return bad;
+        };
+        let taken = taking::take(state, e, &moves, stack);
+        if taken.fault != 0 {
+            return bad;
         }
+        let passed = pass_sentences(program, next, taken.next, &moves, stack);
+        at = passed.at;
+        state = passed.state;
+    }
+    if taking::may_end(state) {
+        Check::Good
+    } else {
+        Check::Bad(at.at)
     }
 }
 

@@ -12,9 +12,9 @@ use Rattle.meaning.proofs.Cutting.{cut-at}
 use Rattle.kinds.specs.Stacks.{stack}
 use Rattle.kinds.proofs.Stacks.{stack-empty}
 use Rattle.elements.specs.declared.Element.{Element}
-use Rattle.elements.specs.declared.Reading.the-variants.{Got, Unknown, Cut, End}
+use Rattle.elements.specs.declared.Reading.the-variants.{Got, Unknown, Cut}
 use Rattle.elements.specs.declared.Cursor.{Cursor}
-use Rattle.elements.specs.Reading.{Splits, ReadAt, over, unknown, short, got, Characters, no-more, one-more}
+use Rattle.elements.specs.Reading.{Splits, ReadAt, unknown, short, got, Characters, no-more, one-more}
 use Rattle.elements.proofs.Places.{split-size}
 use Rattle.elements.proofs.Digits.{one-byte}
 use Rattle.checking_fields.proofs.Turns.{character-good}
@@ -75,13 +75,13 @@ module _ {f st : List ℕ} {i d : ℕ} (F : InField f st i d) where
   unfolding badFrom cut
   ended l = F .same ∙ rw (drop-of-length-le f {i = i} l)
 
-  pub ended-good : ReadAt f i End → d ≡ 0 → badField f ≡ none
+  pub ended-good : length f ≤ i → d ≡ 0 → badField f ≡ none
   unfolding firstBad mayEnd
-  ended-good (over l) e = ended l ∙ rw (stack-empty d st, e)
+  ended-good l e = ended l ∙ rw (stack-empty d st, e)
 
-  pub ended-early : ReadAt f i End → (d ≡ 0 → ⊥) → badField f ≡ some i
+  pub ended-early : length f ≤ i → (d ≡ 0 → ⊥) → badField f ≡ some i
   unfolding firstBad mayEnd
-  ended-early (over l) n = ended l ∙ rw (stack-empty d st, ne-eqb d 0 n)
+  ended-early l n = ended l ∙ rw (stack-empty d st, ne-eqb d 0 n)
 
 -- ---- characters
 

@@ -75,24 +75,21 @@ fn first_bad_in_field(field: &[u8], stack: &mut [u8]) -> FieldCheck
 {
     let mut c = Cursor { at: 0 };
     let mut depth: usize = 0;
-    loop {
-        match c.read(field) {
-            Reading::Got(x, next) => match depth_behind(x, stack, depth) {
-                Behind::Depth(now) => {
-                    depth = now;
-                    c = onward(x, next, field);
-                }
-                Behind::Fault => return FieldCheck::Bad(c.at),
-            },
-            Reading::Unknown => return FieldCheck::Bad(c.at),
-            Reading::Cut => return FieldCheck::Bad(c.at),
-            Reading::End => {
-                if depth == 0 {
-                    return FieldCheck::Good;
-                }
-                return FieldCheck::Bad(c.at);
-            }
-        }
+    while c.at < field.len() {
+        let bad = FieldCheck::Bad(c.at);
+        let Reading::Got(x, next) = c.read(field) else {
+            return bad;
+        };
+        let Behind::Depth(now) = depth_behind(x, stack, depth) else {
+            return bad;
+        };
+        depth = now;
+        c = onward(x, next, field);
+    }
+    if depth == 0 {
+        FieldCheck::Good
+    } else {
+        FieldCheck::Bad(c.at)
     }
 }
 

@@ -1,11 +1,14 @@
 -- What stands at a place: one element, a symbol, a term; and what the code read there.
 use mathlib.Core.Path.{_≡_, refl, sym, _∙_, ap}
 use mathlib.Core.Bool.{true, false}
+use mathlib.Core.Logic.{_⊎_, inl, inr}
 use mathlib.Core.List.{List, [], _∷_, _++_, append-assoc}
 use Prim.Native.Nat.{ℕ, zero, suc, _+_, _-_, _^_, _≤_, _<_}
 use native.Mathlib.Omega.{arith}
 use lib.ListN.{length, getD, take, drop, length-append, length-take, length-drop, drop-of-length-le}
 use lib.Dec.{T, leb}
+use types.Run.{OneOf, miss}
+use denote.Enum.Declared.{tagOf}
 use borrow.Author.Tests.{leb-true, leb-false}
 use Rattle.meaning.specs.Elements.{kind, body, cut, elements, join, isSymbol}
 use Rattle.meaning.specs.Goodness.{span}
@@ -15,7 +18,9 @@ use Rattle.meaning.proofs.Cutting.{cut-at as cut-there, join-cut, join-append}
 use Rattle.kinds.proofs.Bodies.{body-known}
 use Rattle.elements.specs.declared.Element.{Element}
 use Rattle.elements.specs.declared.Element.the-variants.{Character, Name, Macrodigit, Open, Close, Call, Return, SVariable, TVariable, EVariable, Equals, SentenceEnd, Header, FunctionEnd, ProgramEnd}
+use Rattle.elements.specs.declared.Reading.{Reading}
 use Rattle.elements.specs.declared.Reading.the-variants.{Got, Unknown, Cut, End}
+use Rattle.elements.proofs.Reading.{the-type}
 use Rattle.elements.specs.declared.Found.the-variants.{Nothing}
 use Rattle.elements.specs.Bytes.{kindOf, numberOf, digits, bytesOf}
 use Rattle.elements.specs.Reading.{Splits, ReadAt, over, unknown, short, got, Balanced, symbols, opening, closing, SymbolEnd, no-symbol, TermEnd, no-term, ProperAt}
@@ -119,6 +124,13 @@ module _ {s : List ℕ} {at n : ℕ} (h : at < length s) (q : n ≡ 1 + body (ge
 -- a kind that is none of the fifteen is unknown
 pub no-kind : (k : ℕ) → NoneOf k 15 → span 1 15 k ≡ false
 no-kind k n = elim (see (span 1 15 k)) [ is-true z ↦ absurd (let w = span-le 1 15 k z in omega (arith, w .1, beyond 15 k n (w .0))) | is-false z ↦ z ]
+
+-- what is read within the bytes and is no element
+pub unread : {s : List ℕ} {at : ℕ} {r : Reading} → ReadAt s at r → OneOf (1 ∷ 2 ∷ 3 ∷ []) (tagOf the-type r) → at < length s → ReadAt s at Unknown ⊎ ReadAt s at Cut
+unread (over l) k h = never (omega arith)
+unread (unknown i z) k h = inl (unknown i z)
+unread (short i z l) k h = inr (short i z l)
+unread (got n l p) k h = absurd (miss (1 ∷ 2 ∷ 3 ∷ []) 0 tt k)
 
 -- where a whole element stands
 module _ {s : List ℕ} {at : ℕ} (p : ProperAt s at) where
