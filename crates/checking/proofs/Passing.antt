@@ -127,72 +127,80 @@ end-movable q k z = (λ y. never (let c : true ≡ false = sym z ∙ y in cc), �
 pub refused : (q : State) (k v : ℕ) (st : List ℕ) {n : ℕ} → (n ≡ 0 → ⊥) → Tried q k v st (record { fault = n; next = q }) st
 refused q k v st n = record { steps = λ z. absurd (n z); part = refl; kept = λ m. refl }
 
+-- the state behind one element more of a side, d brackets being open
+abbrev further : State → ℕ → State
+further q d = record { part = q .part; depth = d; count = q .count + 1; set = q .set; number = q .number }
+
+within-part : (q : State) (k v : ℕ) (st : List ℕ) (q′ : State) (st′ : List ℕ) → q′ .part ≡ q .part → Steps q k v st (record { fault = 0; next = q′ }) st′
+    → Tried q k v st (record { fault = 0; next = q′ }) st′
+within-part q k v st q′ st′ e S = record { steps = λ z. S; part = e; kept = λ n. absurd (n refl) }
+
 module _ (q : State) (H : HasRoom q) where
   counted : (k : ℕ) → k ≤ 10 → q .count + 1 ≡ countAfter (partOf (q .part)) k (q .count)
   counted k h = count-side (q .part) k (q .count) (no-end k h) (rw (sided-is (q .part), H .0) (or-right (eqb (q .part) 0)))
 
-  plain-passed : (k v : ℕ) → 1 ≤ k → k ≤ 7 → ((k ≡ 6) ⊎ (k ≡ 7) → q .part ≡ 4) → (st : List ℕ) → Ready q st → paired k (stack (q .depth) st) ≡ true
-      → (d : ℕ) (st′ : List ℕ) → d ≡ depthAfter k (q .depth) → st′ ≡ stackAfter k (q .depth) st
-      → Tried q k v st (record { fault = 0; next = record { part = q .part; depth = d; count = q .count + 1; set = q .set; number = q .number } }) st′
-  plain-passed k v low high only st R p d st′ ed es =
-      let y : span 8 10 k ≡ false = plain k (omega arith) in
-      let m = moved-old q k v (q .part) d false (q .count + 1) (counted k (omega arith)) (H .0) refl in
-      record {
-        steps = λ z. old-steps q H k v low (omega arith) only st R p (rw y) false (fresh-plain (q .set) k v y) refl d st′ _ ed es m;
-        part = refl;
-        kept = λ n. absurd (n refl);
-      }
-
-  pub symbol-passed : (k v : ℕ) → 1 ≤ k → k ≤ 3 → (st : List ℕ) → Ready q st
-      → Tried q k v st (record { fault = 0; next = record { part = q .part; depth = q .depth; count = q .count + 1; set = q .set; number = q .number } }) st
-  symbol-passed k v low high st R =
-      let n = neither k 5 7 (omega arith) (omega arith) in
-      let B = none-moves k (q .depth) st (neither k 4 6 (omega arith) (omega arith)) n in
-      plain-passed k v low (omega arith) (λ w. absurd (neither k 6 7 (omega arith) (omega arith) w)) st R (alone k (stack (q .depth) st) (omega arith) n) (q .depth) st (B .0) (B .1)
+  -- no variable, or one that the side has
+  old-tried : (k v : ℕ) → 1 ≤ k → k ≤ 10 → ((k ≡ 6) ⊎ (k ≡ 7) → q .part ≡ 4) → (st : List ℕ) → Ready q st → paired k (stack (q .depth) st) ≡ true
+      → implies (span 8 10 k) (leb v 15) ≡ true → {new : Bool} → new ≡ fresh (q .set) k v → new ≡ false
+      → (d : ℕ) (st′ : List ℕ) → d ≡ depthAfter k (q .depth) → st′ ≡ stackAfter k (q .depth) st → Tried q k v st (record { fault = 0; next = further q d }) st′
+  old-tried k v low high only st R p nu {new} en z d st′ ed es =
+      let m = moved-old q k v (q .part) d new (q .count + 1) (counted k high) (H .0) z in
+      within-part q k v st (further q d) st′ refl (old-steps q H k v low high only st R p nu new en z d st′ _ ed es m)
 
   pub bracket-passed : (k v : ℕ) → 4 ≤ k → k ≤ 7 → ((5 < k) × (q .part ≡ 4)) ⊎ (k ≤ 5) → (st : List ℕ) → Ready q st → paired k (stack (q .depth) st) ≡ true
-      → (d : ℕ) (st′ : List ℕ) → d ≡ depthAfter k (q .depth) → st′ ≡ stackAfter k (q .depth) st
-      → Tried q k v st (record { fault = 0; next = record { part = q .part; depth = d; count = q .count + 1; set = q .set; number = q .number } }) st′
-  bracket-passed k v low high w = plain-passed k v (omega arith) high (only w)
+      → (d : ℕ) (st′ : List ℕ) → d ≡ depthAfter k (q .depth) → st′ ≡ stackAfter k (q .depth) st → Tried q k v st (record { fault = 0; next = further q d }) st′
+  bracket-passed k v low high w st R p =
+      let y : span 8 10 k ≡ false = plain k (omega arith) in
+      old-tried k v (omega arith) (omega arith) (only w) st R p (rw y) (fresh-plain (q .set) k v y) refl
     where
       only : ((5 < k) × (q .part ≡ 4)) ⊎ (k ≤ 5) → (k ≡ 6) ⊎ (k ≡ 7) → q .part ≡ 4
       only (inl w) e = w .1
       only (inr w) (inl e) = never (omega arith)
       only (inr w) (inr e) = never (omega arith)
 
-  module _ (k v : ℕ) (low : 8 ≤ k) (high : k ≤ 10) (small : v ≤ 15) (st : List ℕ) (R : Ready q st) where
+  -- what is no bracket
+  module _ (k v : ℕ) (low : 1 ≤ k) (high : k ≤ 10) (free : 4 ≤ k → k ≤ 7 → ⊥) (st : List ℕ) (R : Ready q st) (nu : implies (span 8 10 k) (leb v 15) ≡ true)
+      {new : Bool} (en : new ≡ fresh (q .set) k v) where
+    none-of : (i j : ℕ) → (4 ≤ i) × (i ≤ 7) → (4 ≤ j) × (j ≤ 7) → (k ≡ i) ⊎ (k ≡ j) → ⊥
+    none-of i j a b = neither k i j (λ e. free (omega arith) (omega arith)) (λ e. free (omega arith) (omega arith))
+
+    shuts-none : (k ≡ 5) ⊎ (k ≡ 7) → ⊥
+    shuts-none = none-of 5 7 (omega arith, omega arith) (omega arith, omega arith)
+
     still : Becomes k (q .depth) st (q .depth) st
-    still = none-moves k (q .depth) st (neither k 4 6 (omega arith) (omega arith)) (neither k 5 7 (omega arith) (omega arith))
+    still = none-moves k (q .depth) st (none-of 4 6 (omega arith, omega arith) (omega arith, omega arith)) shuts-none
 
     pairs : paired k (stack (q .depth) st) ≡ true
-    pairs = alone k (stack (q .depth) st) high (neither k 5 7 (omega arith) (omega arith))
+    pairs = alone k (stack (q .depth) st) high shuts-none
 
+    anywhere : (k ≡ 6) ⊎ (k ≡ 7) → q .part ≡ 4
+    anywhere w = absurd (none-of 6 7 (omega arith, omega arith) (omega arith, omega arith) w)
+
+    old-here : new ≡ false → Tried q k v st (record { fault = 0; next = further q (q .depth) }) st
+    old-here z = old-tried k v low high anywhere st R pairs nu en z (q .depth) st (still .0) (still .1)
+
+    new-here : new ≡ true → (q .part ≡ 4 → ⊥) → q .number < 16 → {j slots : ℕ} → j ≡ slotOf k v → slots ≡ joined (q .set) j
+        → Tried q k v st (record { fault = 0; next = record { part = q .part; depth = q .depth; count = q .count + 1; set = slots; number = q .number + 1 } }) st
+    new-here z n l {j} {slots} f g =
+        let m = moved-new q k v (q .part) (q .depth) new (q .count + 1) (counted k high) j slots (H .0) z f g in
+        within-part q k v st _ st refl (new-steps q H k v low high anywhere st R pairs nu new en z n l (q .depth) st _ (still .0) (still .1) m)
+
+  pub symbol-passed : (k v : ℕ) → 1 ≤ k → k ≤ 3 → (st : List ℕ) → Ready q st → Tried q k v st (record { fault = 0; next = further q (q .depth) }) st
+  symbol-passed k v low high st R =
+      let y : span 8 10 k ≡ false = plain k (omega arith) in
+      old-here k v low (omega arith) (λ a b. omega arith) st R (rw y) (fresh-plain (q .set) k v y) refl
+
+  module _ (k v : ℕ) (low : 8 ≤ k) (high : k ≤ 10) (small : v ≤ 15) (st : List ℕ) (R : Ready q st) {new : Bool} (en : new ≡ fresh (q .set) k v) where
     numbered : implies (span 8 10 k) (leb v 15) ≡ true
     unfolding span
     numbered = rw (le-leb 8 k low, le-leb k 10 high, le-leb v 15 small)
 
-    anywhere : (k ≡ 6) ⊎ (k ≡ 7) → q .part ≡ 4
-    anywhere w = absurd (neither k 6 7 (omega arith) (omega arith) w)
+    pub old-passed : new ≡ false → Tried q k v st (record { fault = 0; next = further q (q .depth) }) st
+    old-passed = old-here k v (omega arith) high (λ a b. omega arith) st R numbered en
 
-    pub old-passed : {new : Bool} → new ≡ fresh (q .set) k v → new ≡ false
-        → Tried q k v st (record { fault = 0; next = record { part = q .part; depth = q .depth; count = q .count + 1; set = q .set; number = q .number } }) st
-    old-passed {new} en z =
-        let m = moved-old q k v (q .part) (q .depth) new (q .count + 1) (counted k high) (H .0) z in
-        record {
-          steps = λ f. old-steps q H k v (omega arith) high anywhere st R pairs numbered new en z (q .depth) st _ (still .0) (still .1) m;
-          part = refl;
-          kept = λ n. absurd (n refl);
-        }
-
-    pub new-passed : {new : Bool} → new ≡ fresh (q .set) k v → new ≡ true → (q .part ≡ 4 → ⊥) → q .number < 16 → {j slots : ℕ} → j ≡ slotOf k v → slots ≡ joined (q .set) j
+    pub new-passed : new ≡ true → (q .part ≡ 4 → ⊥) → q .number < 16 → {j slots : ℕ} → j ≡ slotOf k v → slots ≡ joined (q .set) j
         → Tried q k v st (record { fault = 0; next = record { part = q .part; depth = q .depth; count = q .count + 1; set = slots; number = q .number + 1 } }) st
-    new-passed {new} en z n l {j} {slots} f g =
-        let m = moved-new q k v (q .part) (q .depth) new (q .count + 1) (counted k high) j slots (H .0) z f g in
-        record {
-          steps = λ e. new-steps q H k v (omega arith) high anywhere st R pairs numbered new en z n l (q .depth) st _ (still .0) (still .1) m;
-          part = refl;
-          kept = λ n. absurd (n refl);
-        }
+    new-passed = new-here k v (omega arith) high (λ a b. omega arith) st R numbered en
 
 -- ---- only a variable's number is asked for
 pub tells-plain : {k v : ℕ} {x : Element} → Tells k v x → span 8 10 k ≡ false → Tells k 0 x
