@@ -1,0 +1,5 @@
+pub mod Classes
+pub mod Tokens
+pub mod Numbering
+pub mod Reading
+pub mod Answers

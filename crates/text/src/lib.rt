@@ -1,0 +1,1 @@
+// The meaning of rules as text: definitions in specs/, theorems in proofs/, no code.
