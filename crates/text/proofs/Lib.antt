@@ -1,1 +1,4 @@
-pub mod Good
+pub mod Names
+pub mod Kept
+pub mod Promises
+pub mod Texts

@@ -2,4 +2,5 @@ pub mod Classes
 pub mod Tokens
 pub mod Numbering
 pub mod Reading
+pub mod Agreeing
 pub mod Answers

@@ -54,6 +54,10 @@ closing ended = element 14 0 ∷ []
 abbrev pub partOf : State → Part
 partOf (at p opens n vs) = p
 
+-- the kind of a variable by its letter
+unfoldable pub typeOf : ℕ → ℕ
+typeOf letter = cond (eqb letter 115) 8 (cond (eqb letter 116) 9 10)
+
 -- what the signs make inside a function: ( ) > = ; } by their bytes; { cannot stand there
 unfoldable pub signed : Part → ℕ → Option (List Element)
 signed p c =
@@ -75,7 +79,7 @@ within (name x) ns vs s out = putAll (element 2 (numberOf (nameKey x) ns) ∷ []
 within (call x) ns vs s out = putAll (element 6 (numberOf (nameKey x) ns) ∷ []) (reader inside (adding (nameKey x) ns) vs s out)
 within (macrodigit n) ns vs s out = putAll (element 3 n ∷ []) (reader inside ns vs s out)
 within (string x) ns vs s out = putAll (map (element 1) x) (reader inside ns vs s out)
-within (variable k x) ns vs s out = putAll (element k (numberOf (k ∷ x) vs) ∷ []) (reader inside ns (adding (k ∷ x) vs) s out)
+within (variable b x) ns vs s out = putAll (element (typeOf b) (numberOf (typeOf b ∷ x) vs) ∷ []) (reader inside ns (adding (typeOf b ∷ x) vs) s out)
 within (sign c) ns vs s out = putSome (signed (partOf s) c) (reader inside ns vs s out)
 
 -- a function's name makes its header
@@ -85,7 +89,7 @@ heading (name x) ns s out = putAll (element 13 (numberOf (nameKey x) ns) ∷ [])
 heading (call x) ns s out = none
 heading (macrodigit n) ns s out = none
 heading (string x) ns s out = none
-heading (variable k x) ns s out = none
+heading (variable b x) ns s out = none
 heading (sign c) ns s out = none
 
 -- the token is the sign c
@@ -95,7 +99,7 @@ isSign c (name x) = false
 isSign c (call x) = false
 isSign c (macrodigit n) = false
 isSign c (string x) = false
-isSign c (variable k x) = false
+isSign c (variable b x) = false
 isSign c (sign d) = eqb c d
 
 -- one token more; none: it is malformed, cannot stand here, or would make a bad element

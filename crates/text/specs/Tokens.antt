@@ -17,7 +17,7 @@ pub data Token : Type 0 where
   macrodigit : ℕ → Token
   -- the characters of a string
   string : List ℕ → Token
-  -- a variable's kind, and its index in one spelling
+  -- a variable's letter, and its index in one spelling
   variable : ℕ → List ℕ → Token
   -- ( ) > { } = ; by their byte
   sign : ℕ → Token
@@ -59,10 +59,6 @@ value v (d ∷ ds) = value (v * 10 + (d - 48)) ds
 unfoldable pub number : List ℕ → List ℕ → Lexeme
 number digits rest = cond (real rest || ltb 4294967295 (value 0 digits)) wrong (token (macrodigit (value 0 digits)) (length digits - 1))
 
--- the kind of a variable by its letter
-unfoldable pub typeOf : ℕ → ℕ
-typeOf b = cond (eqb b 115) 8 (cond (eqb b 116) 9 10)
-
 -- digits without leading zeros: an index that is a number
 unfoldable pub trim : List ℕ → List ℕ
 trim [] = []
@@ -71,10 +67,10 @@ trim (d ∷ x ∷ ds) = elim (eqb d 48) [ true ↦ trim (x ∷ ds) | false ↦ d
 
 -- an index behind a dot, from its longest run: all digits, or an identifier whose first letter is in either case
 unfoldable pub dotted : ℕ → List ℕ → Lexeme
-dotted k [] = wrong
-dotted k (b ∷ x) =
-    cond (isDigit b && empty (drop (length (front isDigit x)) x)) (token (variable k (trim (b ∷ x))) (2 + length x))
-    (cond (isLetter b && leb (length x) 14) (token (variable k (map spell (b ∷ x))) (2 + length x)) wrong)
+dotted letter [] = wrong
+dotted letter (b ∷ x) =
+    cond (isDigit b && empty (drop (length (front isDigit x)) x)) (token (variable letter (trim (b ∷ x))) (2 + length x))
+    (cond (isLetter b && leb (length x) 14) (token (variable letter (map spell (b ∷ x))) (2 + length x)) wrong)
 
 -- after a variable without a dot nothing of an identifier follows at once, but another variable may
 unfoldable pub apart : List ℕ → Bool
@@ -83,10 +79,10 @@ apart (b ∷ bs) = not (inName b) || isType b
 
 -- the index of a variable: behind a dot, or one capital or digit
 unfoldable pub indexed : ℕ → List ℕ → Lexeme
-indexed k [] = wrong
-indexed k (b ∷ bs) =
-    cond (eqb b 46) (dotted k (front inName bs))
-    (cond ((isCapital b || isDigit b) && apart bs) (token (variable k (spell b ∷ [])) 1) wrong)
+indexed letter [] = wrong
+indexed letter (b ∷ bs) =
+    cond (eqb b 46) (dotted letter (front inName bs))
+    (cond ((isCapital b || isDigit b) && apart bs) (token (variable letter (spell b ∷ [])) 1) wrong)
 
 -- a string's characters, and how many bytes it has behind its opening quote
 pub data Quoted : Type 0 where
@@ -139,7 +135,7 @@ lexOf k column b bs =
     cond (eqb k 1 || eqb k 12) (gap 0)
     (cond (eqb k 2) (slashed bs)
     (cond (eqb k 3) (asName (identifier (b ∷ bs)))
-    (cond (eqb k 5) (indexed (typeOf b) bs)
+    (cond (eqb k 5) (indexed b bs)
     (cond (eqb k 6) (number (b ∷ front isDigit bs) (drop (length (front isDigit bs)) bs))
     (cond (eqb k 8) (asString (quoted b false bs))
     (cond (eqb k 9) (token (sign b) 0)
