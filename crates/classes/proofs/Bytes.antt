@@ -5,7 +5,7 @@ use mathlib.Core.List.{List}
 use Prim.Native.Nat.{ℕ, _+_, _-_, _≤_, _<_}
 use native.Mathlib.Omega.{arith}
 use lib.Dec.{T, eqb, ltb, eqb→eq}
-use lib.ListN.{length, getD, replicate}
+use lib.ListN.{length, replicate}
 use borrow.Author.Tests.{le-leb, lt-leb, ltb-true, ne-eqb}
 use Rattle.meaning.specs.Goodness.{span, implies}
 use Rattle.meaning.proofs.Truth.{T-true}

@@ -1,0 +1,4 @@
+pub mod Spelling
+pub mod Numbers
+pub mod Chains
+pub mod Writing

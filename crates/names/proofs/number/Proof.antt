@@ -1,0 +1,68 @@
+use Rattle.names.proofs.Chains.{numbered-new, numbered-old}
+use borrow.Author.Needs.{needs}
+use Rattle.names.proofs.number.Statement.{statement}
+use Rattle.names.proofs.number.Tie as tie
+
+bucket-of-requires : tie.Need-bucket-of-requires
+bucket-of-requires c κs = search needs
+
+find-requires : tie.Need-find-requires
+find-requires c κs = search needs
+
+add-requires : tie.Need-add-requires
+add-requires c κs = search needs
+
+same-length : tie.Need-same-length
+same-length c = search needs
+
+same-length-2 : tie.Need-same-length-2
+same-length-2 c = search needs
+
+same-length-3 : tie.Need-same-length-3
+same-length-3 c = search needs
+
+returns : tie.Need-returns
+returns c =
+    let start = c .before .before .before .before .before .before .before .before .before .before .before .before .before .before .before .before .before
+    .before .before .before in
+    let bucket-of = c .before .before .before .before .before .before .before .before .before .before .before .before .before .before .before .bucket-of in
+    let find = c .before .before .before .before .before .before .before .before .before .before .before .find in
+    let if1 = c .before .before .before .before .before .before .before .before .before .before .if1 in
+    let add = c .before .before .before .before .before .before .add in
+    let p = c .before .before .before .before .before .before .before .before .before .before .before .before .before .before .before .before .before .before
+    .before .before .pre in
+    numbered-new (p .1 .1 .1) (start .args .at) (p .1 .0 .0) (p .1 .0 .1) (p .1 .1 .0 .1) (p .1 .1 .0 .2) _ (bucket-of .ensures .0) (bucket-of .ensures .1) _
+    (find .ensures) (if1 .taken) (add .ensures)
+
+same-length-4 : tie.Need-same-length-4
+same-length-4 c = search needs
+
+same-length-5 : tie.Need-same-length-5
+same-length-5 c = search needs
+
+same-length-6 : tie.Need-same-length-6
+same-length-6 c = search needs
+
+returns-2 : tie.Need-returns-2
+returns-2 c =
+    let start = c .before .before .before .before .before .before .before .before .before .before in
+    let bucket-of = c .before .before .before .before .before .bucket-of in
+    let p = c .before .before .before .before .before .before .before .before .before .before .pre in
+    numbered-old (p .1 .1 .1) (start .args .at) (p .1 .0 .0) (p .1 .0 .1) (p .1 .1 .0 .1) (p .1 .1 .0 .2) _ (bucket-of .ensures .0) (bucket-of .ensures .1) _
+    (c .before .find .ensures) (c .if1 .left)
+
+pub number-spec : {M : Type 1} → statement M
+number-spec =
+    tie.close
+    (tie.spec
+    bucket-of-requires
+    find-requires
+    add-requires
+    same-length
+    same-length-2
+    same-length-3
+    returns
+    same-length-4
+    same-length-5
+    same-length-6
+    returns-2)
