@@ -12,7 +12,7 @@ use borrow.Author.Tests.{eqb-true, eqb-false, ltb-true, ltb-false, eq-eqb, ne-eq
 use Rattle.meaning.proofs.Truth.{is-true, is-false, see}
 use Rattle.names.specs.Names.{keyAt, nameAt, numberAt}
 use Rattle.names.specs.Index.{bucket, Index, Added, Numbered}
-use Rattle.names.proofs.Numbers.{number-none, number-first, number-new, number-most, keys-new, keys-old}
+use Rattle.names.proofs.Numbers.{none-equal, first-equal, at-most, new-other, keys-new, keys-old}
 
 -- the walk from the head of the bucket of the name at `at` stands at h: the names from h on are others
 pub record Walk (s firsts : List ℕ) (n at h : ℕ) : Type 0 where
@@ -29,7 +29,8 @@ module _ {s firsts heads links : List ℕ} {n : ℕ} (ix : Index s firsts heads 
         passed = λ k l m e. omega (arith, rw (← e, ← p) at (ix .head-all k m));
       }
 
-  pub walk-on : {h : ℕ} (k : ℕ) → Walk s firsts n at h → h ≡ suc k → (keyAt s at ≡ nameAt s firsts k → ⊥) → Walk s firsts n at (getD links k 0)
+  pub walk-on : {h : ℕ} (k : ℕ) → Walk s firsts n at h → h ≡ suc k → (keyAt s at ≡ nameAt s firsts k → ⊥)
+      → Walk s firsts n at (getD links k 0)
   walk-on {h} k w e d =
       let l : k < n = omega (arith, w .within) in
       record {
@@ -49,161 +50,159 @@ module _ {s firsts heads links : List ℕ} {n : ℕ} (ix : Index s firsts heads 
   pub walk-found : {h : ℕ} (k : ℕ) → Walk s firsts n at h → h ≡ suc k → keyAt s at ≡ nameAt s firsts k → k ≡ numberAt s firsts n at
   walk-found k w e f =
       let l : k < n = omega (arith, w .within) in
-      number-first (keyAt s at) s firsts n (ix .places .room) k l f (λ j m g. ix .apart j k m l (sym f ∙ g))
+      first-equal s firsts n (ix .places .room) at k l f (λ j m g. ix .apart j k m l (sym f ∙ g))
 
   pub walk-none : Walk s firsts n at 0 → n ≡ numberAt s firsts n at
-  walk-none w = number-none (keyAt s at) s firsts n (ix .places .room) (λ k l e. w .passed k (omega arith) l e)
+  walk-none w = none-equal s firsts n (ix .places .room) at (λ k l e. w .passed k (omega arith) l e)
 
 -- the index with the name that begins at `at`, which is new, as number n
-module _ (s firsts heads links : List ℕ) (n : ℕ) (ix : Index s firsts heads links n) (at : ℕ) (inside : at < length s) (short : length (keyAt s at) ≤ 15)
-    (fits : n < length firsts) (fits′ : n < length links) (new : n ≡ numberAt s firsts n at) (narrow : bucket (keyAt s at) < 8192) where
-  q : ℕ
-  q = bucket (keyAt s at)
+module _ {s firsts heads links : List ℕ} {n : ℕ} (ix : Index s firsts heads links n) (at : ℕ) (inside : at < length s)
+    (short : length (keyAt s at) ≤ 15) (fits : n < length firsts) (fits′ : n < length links) (new : n ≡ numberAt s firsts n at)
+    (narrow : bucket (keyAt s at) < 8192) where
+  ours : ℕ
+  ours = bucket (keyAt s at)
 
-  F : List ℕ
-  F = set firsts n at
+  firsts′ : List ℕ
+  firsts′ = set firsts n at
 
-  H : List ℕ
-  H = set heads q (n + 1)
+  heads′ : List ℕ
+  heads′ = set heads ours (n + 1)
 
-  L : List ℕ
-  L = set links n (getD heads q 0)
+  links′ : List ℕ
+  links′ = set links n (getD heads ours 0)
 
-  old-name : (k : ℕ) → k < n → nameAt s F k ≡ nameAt s firsts k
-  unfolding F
+  old-name : (k : ℕ) → k < n → nameAt s firsts′ k ≡ nameAt s firsts k
+  unfolding firsts′
   old-name k l = ap (keyAt s) (getD-set-other firsts n k at 0 (λ e. omega arith))
 
-  new-name : nameAt s F n ≡ keyAt s at
-  unfolding F
+  new-name : nameAt s firsts′ n ≡ keyAt s at
+  unfolding firsts′
   new-name = ap (keyAt s) (getD-set-same firsts n at 0 fits)
 
-  old-link : (k : ℕ) → k < n → getD L k 0 ≡ getD links k 0
-  unfolding L
+  old-link : (k : ℕ) → k < n → getD links′ k 0 ≡ getD links k 0
+  unfolding links′
   old-link k l = getD-set-other links n k _ 0 (λ e. omega arith)
 
-  new-link : getD L n 0 ≡ getD heads q 0
-  unfolding L
+  new-link : getD links′ n 0 ≡ getD heads ours 0
+  unfolding links′
   new-link = getD-set-same links n _ 0 fits′
 
-  new-head : getD H q 0 ≡ n + 1
-  unfolding H q
-  new-head = getD-set-same heads q (n + 1) 0 (omega (arith, ix .wide))
+  new-head : getD heads′ ours 0 ≡ n + 1
+  unfolding heads′ ours
+  new-head = getD-set-same heads ours (n + 1) 0 (omega (arith, ix .wide))
 
-  old-head : (b : ℕ) → (b ≡ q → ⊥) → getD H b 0 ≡ getD heads b 0
-  unfolding H
-  old-head b d = getD-set-other heads q b (n + 1) 0 d
+  old-head : (b : ℕ) → (b ≡ ours → ⊥) → getD heads′ b 0 ≡ getD heads b 0
+  unfolding heads′
+  old-head b d = getD-set-other heads ours b (n + 1) 0 d
 
-  bucket-old : (k : ℕ) → k < n → bucket (nameAt s F k) ≡ bucket (nameAt s firsts k)
+  bucket-old : (k : ℕ) → k < n → bucket (nameAt s firsts′ k) ≡ bucket (nameAt s firsts k)
   bucket-old k l = ap bucket (old-name k l)
 
-  bucket-new : bucket (nameAt s F n) ≡ q
-  unfolding q
+  bucket-new : bucket (nameAt s firsts′ n) ≡ ours
+  unfolding ours
   bucket-new = ap bucket new-name
 
-  head-in : (b : ℕ) → getD H b 0 ≤ n + 1
+  head-in : (b : ℕ) → getD heads′ b 0 ≤ n + 1
   head-in b =
-      elim (see (eqb b q)) [
-        | is-true z ↦ rw (eqb-true b q z) (omega (arith, new-head))
-        | is-false z ↦ omega (arith, old-head b (eqb-false b q z), ix .head-in b)
+      elim (see (eqb b ours)) [
+        | is-true z ↦ rw (eqb-true b ours z) (omega (arith, new-head))
+        | is-false z ↦ omega (arith, old-head b (eqb-false b ours z), ix .head-in b)
       ]
 
-  head-own : (b k : ℕ) → getD H b 0 ≡ suc k → bucket (nameAt s F k) ≡ b
+  head-own : (b k : ℕ) → getD heads′ b 0 ≡ suc k → bucket (nameAt s firsts′ k) ≡ b
   head-own b k e =
-      elim (see (eqb b q)) [
+      elim (see (eqb b ours)) [
         | is-true z ↦
-            let p : b ≡ q = eqb-true b q z in
+            let p : b ≡ ours = eqb-true b ours z in
             let m : k ≡ n = omega (arith, new-head, rw p at e) in
             rw (m, p) bucket-new
         | is-false z ↦
-            let f : getD heads b 0 ≡ suc k = sym (old-head b (eqb-false b q z)) ∙ e in
+            let f : getD heads b 0 ≡ suc k = sym (old-head b (eqb-false b ours z)) ∙ e in
             bucket-old k (omega (arith, ix .head-in b)) ∙ ix .head-own b k f
       ]
 
-  head-all : (k : ℕ) → k < n + 1 → k < getD H (bucket (nameAt s F k)) 0
+  head-all : (k : ℕ) → k < n + 1 → k < getD heads′ (bucket (nameAt s firsts′ k)) 0
   head-all =
-      below-more (λ k. k < getD H (bucket (nameAt s F k)) 0) n
+      below-more (λ k. k < getD heads′ (bucket (nameAt s firsts′ k)) 0) n
       (λ k l. rw (bucket-old k l)
-      (elim (see (eqb (bucket (nameAt s firsts k)) q)) [
-        | is-true z ↦ rw (eqb-true _ q z) (omega (arith, new-head))
-        | is-false z ↦ rw (old-head _ (eqb-false _ q z)) (ix .head-all k l)
+      (elim (see (eqb (bucket (nameAt s firsts k)) ours)) [
+        | is-true z ↦ rw (eqb-true _ ours z) (omega (arith, new-head))
+        | is-false z ↦ rw (old-head _ (eqb-false _ ours z)) (ix .head-all k l)
       ]))
       (rw bucket-new (omega (arith, new-head)))
 
   pub index-more : Index s (set firsts n at) (set heads (bucket (keyAt s at)) (n + 1)) (set links n (getD heads (bucket (keyAt s at)) 0)) (n + 1)
-  unfolding F H L q
+  unfolding firsts′ heads′ links′ ours
   index-more =
       record {
         places =
             record {
               room = rw (length-set firsts n at) (omega arith);
               inside =
-                  below-more (λ k. getD F k 0 < length s) n
+                  below-more (λ k. getD firsts′ k 0 < length s) n
                   (λ k l. rw (getD-set-other firsts n k at 0 (λ e. omega arith)) (ix .places .inside k l))
                   (rw (getD-set-same firsts n at 0 fits) inside);
               short =
-                  below-more (λ k. length (nameAt s F k) ≤ 15) n
+                  below-more (λ k. length (nameAt s firsts′ k) ≤ 15) n
                   (λ k l. rw (old-name k l) (ix .places .short k l))
                   (rw new-name short);
             };
-        wide = rw (length-set heads q (n + 1)) (ix .wide);
-        room = rw (length-set links n (getD heads q 0)) (omega arith);
+        wide = rw (length-set heads ours (n + 1)) (ix .wide);
+        room = rw (length-set links n (getD heads ours 0)) (omega arith);
         apart = λ j k m l.
-            below-more (λ k. j < k → nameAt s F k ≡ nameAt s F j → ⊥) n
+            below-more (λ k. j < k → nameAt s firsts′ k ≡ nameAt s firsts′ j → ⊥) n
             (λ k l m e. ix .apart j k m l (sym (old-name k l) ∙ e ∙ old-name j (omega arith)))
-            (λ m e. number-new (keyAt s at) s firsts n (ix .places .room) new j m (sym new-name ∙ e ∙ old-name j m))
+            (λ m e. new-other s firsts n (ix .places .room) at new j m (sym new-name ∙ e ∙ old-name j m))
             k l m;
         head-in = head-in;
         head-own = head-own;
         head-all = head-all;
         link-in =
-            below-more (λ k. getD L k 0 ≤ k) n
+            below-more (λ k. getD links′ k 0 ≤ k) n
             (λ k l. rw (old-link k l) (ix .link-in k l))
-            (rw new-link (ix .head-in q));
+            (rw new-link (ix .head-in ours));
         link-own = λ j k l.
-            below-more (λ k. getD L k 0 ≡ suc j → bucket (nameAt s F j) ≡ bucket (nameAt s F k)) n
+            below-more (λ k. getD links′ k 0 ≡ suc j → bucket (nameAt s firsts′ j) ≡ bucket (nameAt s firsts′ k)) n
             (λ k l e.
             let f : getD links k 0 ≡ suc j = sym (old-link k l) ∙ e in
             bucket-old j (omega (arith, ix .link-in k l)) ∙ ix .link-own j k l f ∙ sym (bucket-old k l))
             (λ e.
-            let f : getD heads q 0 ≡ suc j = sym new-link ∙ e in
-            bucket-old j (omega (arith, ix .head-in q)) ∙ ix .head-own q j f ∙ sym bucket-new)
+            let f : getD heads ours 0 ≡ suc j = sym new-link ∙ e in
+            bucket-old j (omega (arith, ix .head-in ours)) ∙ ix .head-own ours j f ∙ sym bucket-new)
             k l;
         link-all = λ j k m l.
-            below-more (λ k. j < k → bucket (nameAt s F j) ≡ bucket (nameAt s F k) → j < getD L k 0) n
+            below-more (λ k. j < k → bucket (nameAt s firsts′ j) ≡ bucket (nameAt s firsts′ k) → j < getD links′ k 0) n
             (λ k l m e. rw (old-link k l) (ix .link-all j k m l (sym (bucket-old j (omega arith)) ∙ e ∙ bucket-old k l)))
             (λ m e. rw (new-link, ← sym (bucket-old j m) ∙ e ∙ bucket-new) (ix .head-all j m))
             k l m;
       }
 
--- the index after a name of bucket b was looked for, and added where it was new
-module _ {s firsts heads links : List ℕ} {n : ℕ} (ix : Index s firsts heads links n) (at : ℕ) (inside : at < length s) (short : length (keyAt s at) ≤ 15)
-    (fits : n < length firsts) (fits′ : n < length links) (b : ℕ) (own : b ≡ bucket (keyAt s at)) (narrow : b < 8192)
-    (r : ℕ) (found : r ≡ numberAt s firsts n at) where
-  most : numberAt s firsts n at ≤ n
-  most = number-most (keyAt s at) s firsts n (ix .places .room)
-
-  pub numbered-new : {firsts′ heads′ links′ : List ℕ} → r ≡ n → Added n at b firsts heads links firsts′ heads′ links′
-      → Numbered s firsts heads links n at firsts′ heads′ links′ r
-  numbered-new e a =
-      let g : n ≡ numberAt s firsts n at = sym e ∙ found in
+-- the index after the name that begins at `at` was looked for, and added to bucket b where it was new
+module _ {s firsts heads links : List ℕ} {n : ℕ} (ix : Index s firsts heads links n) (at r : ℕ) (found : r ≡ numberAt s firsts n at) where
+  pub numbered-new : {firsts′ heads′ links′ : List ℕ} {b : ℕ} → r ≡ n → (at < length s) × (length (keyAt s at) ≤ 15)
+      → (n < 65535) × (n < length firsts) × (n < length links) → (b ≡ bucket (keyAt s at)) × (b < 8192)
+      → Added n at b firsts heads links firsts′ heads′ links′ → Numbered s firsts heads links n at firsts′ heads′ links′ r
+  numbered-new e (inside, short) (few, fits, fits′) (own, narrow) a =
+      let new : n ≡ numberAt s firsts n at = sym e ∙ found in
       let t : eqb r n ≡ true = eq-eqb r n e in
       record {
         number = found;
         most = omega arith;
         long = (ap length (a .first) ∙ simp length-set, ap length (a .head) ∙ simp length-set, ap length (a .link) ∙ simp length-set);
-        index = rw (t, a .first, a .head, a .link, own) (index-more s firsts heads links n ix at inside short fits fits′ g (rw own at narrow));
-        list = rw (t, a .first) (keys-new s firsts n at fits g);
+        index = rw (t, a .first, a .head, a .link, own) (index-more ix at inside short fits fits′ new (rw own at narrow));
+        list = rw (t, a .first) (keys-new s firsts n (ix .places .room) at fits new);
       }
 
   pub numbered-old : (r ≡ n → ⊥) → Numbered s firsts heads links n at firsts heads links r
   numbered-old d =
       let t : eqb r n ≡ false = ne-eqb r n d in
+      let most : numberAt s firsts n at ≤ n = at-most s firsts n (ix .places .room) at in
       record {
         number = found;
-        most = omega (arith, most);
+        most = omega arith;
         long = (refl, refl, refl);
         index = rw t ix;
-        list = rw t (keys-old s firsts n at fits (omega (arith, most)));
+        list = rw t (keys-old s firsts n (ix .places .room) at (omega arith));
       }
 
 zeros : (m b : ℕ) → _≡_ {A = ℕ} (getD (replicate m 0) b 0) 0

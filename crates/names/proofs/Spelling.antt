@@ -3,7 +3,7 @@ use mathlib.Core.Path.{_≡_, refl, _∙_}
 use mathlib.Core.Bool.{Bool, true, false, _&&_, cond, false≢true}
 use mathlib.Core.Option.{some}
 use mathlib.Core.List.{List, [], _∷_, map}
-use Prim.Native.Nat.{ℕ, zero, suc, _+_, _/_, _≤_, _<_}
+use Prim.Native.Nat.{ℕ, zero, suc, _+_, _≤_, _<_}
 use native.Mathlib.Omega.{arith}
 use native.Mathlib.Numerals.{add-one}
 use lib.ListN.{length, getD, drop, length-map, List·getD-eq-default}
@@ -124,14 +124,14 @@ module _ (s : List ℕ) (a b : ℕ) (la : a < length s) (lb : b < length s) wher
 
 -- the bucket, from what is mixed so far
 pub hashed : List ℕ → ℕ → ℕ → ℕ
-hashed s h i = hashFrom h (tailOf (drop i s)) / 8
+hashed s h i = hashFrom h (tailOf (drop i s))
 
 pub hash-start : (s : List ℕ) (a : ℕ) → a < length s → hashed s (getD s a 0) (a + 1) ≡ bucket (keyAt s a)
 unfolding hashed bucket
 hash-start s a l = rw (key-is s a l)
 
 module _ (s : List ℕ) (h i : ℕ) where
-  pub hash-end : {x : ℕ} → Tail s i x → x ≡ 0 → h / 8 ≡ hashed s h i
+  pub hash-end : {x : ℕ} → Tail s i x → x ≡ 0 → h ≡ hashed s h i
   unfolding hashed hashFrom
   hash-end (over p) z = rw p
   hash-end (more l p) z = absurd (omega arith)
@@ -141,6 +141,6 @@ module _ (s : List ℕ) (h i : ℕ) where
   hash-on (over p) z = absurd (z refl)
   hash-on (more l p) z = rw p
 
-  pub hash-out : length s ≤ i → h / 8 ≡ hashed s h i
+  pub hash-out : length s ≤ i → h ≡ hashed s h i
   unfolding hashed hashFrom
   hash-out l = rw (tail-past s i l)

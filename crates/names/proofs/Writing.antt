@@ -42,11 +42,10 @@ module _ (s list : List ℕ) (o at : ℕ) (l : o < length s) where
   unfolding nameKey
   key-room h = let g = rw (key-is s o l) at h in omega arith
 
-  pub key-put : sets (set (set list at 20) (at + 1) (getD s o 0)) (at + 2) (tailOf (drop (o + 1) s)) ≡ sets list at (nameKey (keyAt s o))
+  pub key-put : {to : List ℕ} → to ≡ sets (set (set list at 20) (at + 1) (getD s o 0)) (at + 2) (tailOf (drop (o + 1) s))
+      → to ≡ sets list at (nameKey (keyAt s o))
   unfolding nameKey
-  key-put = let e : at + 2 ≡ suc (suc at) = omega arith in rw (key-is s o l, add-one at, e)
-
--- RECORDS
+  key-put h = let e : at + 2 ≡ suc (suc at) = omega arith in rw (key-is s o l) (rw (add-one at, e) at h)
 
 drop-zeros : (m z : ℕ) → _≡_ {A = List ℕ} (drop m (replicate z 0)) (replicate (z - m) 0)
 drop-zeros zero z = let e : z - 0 ≡ z = omega arith in rw e
@@ -59,9 +58,9 @@ put-record : (a x : List ℕ) (z : ℕ) → length x ≤ 16 → 16 ≤ z
 put-record a x z l m =
     let fits : length a + length x ≤ length (a ++ replicate z 0) = simp (length-append, length-replicate) (omega arith) in
     let e : z - length x ≡ 16 - length x + (z - 16) = omega arith in
+    let split = replicate-append-replicate {A = ℕ} (16 - length x) (z - 16) 0 in
     sets-eq x (a ++ replicate z 0) (length a) fits
-    ∙ rw (take-append-seam a (replicate z 0), drop-append-add a (replicate z 0) (length x), drop-zeros (length x) z, e, ← replicate-append-replicate {A = ℕ} (16 - length x) (z - 16) 0)
-    (simp append-assoc)
+    ∙ rw (take-append-seam a (replicate z 0), drop-append-add a (replicate z 0) (length x), drop-zeros (length x) z, e, ← split) (simp append-assoc)
 
 list-append : (xs ys : List Key) → listOf (xs ++ ys) ≡ listOf xs ++ listOf ys
 unfolding listOf
@@ -124,13 +123,14 @@ module _ {s firsts list₀ : List ℕ} {n : ℕ} (p : Places s firsts n) (room :
       let x = nameKey (nameAt s firsts k) in
       let m : length a ≡ 16 * k = first-size p k (omega arith) in
       let i : k * 16 ≡ length a = omega arith in
-      let z : length list₀ - length (listOf (named s firsts (k + 1))) ≡ length list₀ - length a - 16 = omega (arith, first-size p (k + 1) (omega arith)) in
+      let m′ : length (listOf (named s firsts (k + 1))) ≡ 16 * (k + 1) = first-size p (k + 1) (omega arith) in
+      let z : length list₀ - length (listOf (named s firsts (k + 1))) ≡ length list₀ - length a - 16 = omega arith in
       record {
         is = rw (e, w .is, z, one-more p k l, i) (put-record a x (length list₀ - length a) (key-short p k l) (omega arith));
         long = ap length e ∙ simp length-sets (w .long);
       }
 
-pub written-all : {s firsts list₀ list : List ℕ} {k : ℕ} (to : List ℕ) (n : ℕ) → Written s firsts list₀ list k → n ≤ k → k ≤ n → length list₀ ≡ length to
-    → list ≡ filled (listOf (named s firsts n)) to
+pub written-all : {s firsts list₀ list : List ℕ} {k : ℕ} (to : List ℕ) (n : ℕ) → Written s firsts list₀ list k → n ≤ k → k ≤ n
+    → length list₀ ≡ length to → list ≡ filled (listOf (named s firsts n)) to
 unfolding filled
 written-all {k = k} to n w l m e = let z : k ≡ n = omega arith in rw (z, e) at (w .is)

@@ -2,7 +2,7 @@
 use mathlib.Core.Path.{_≡_}
 use mathlib.Core.Bool.{cond}
 use mathlib.Core.List.{List, [], _∷_}
-use Prim.Native.Nat.{ℕ, suc, _+_, _*_, _/_, _%_, _≤_, _<_}
+use Prim.Native.Nat.{ℕ, suc, _+_, _*_, _%_, _≤_, _<_}
 use lib.ListN.{length, getD, set}
 use lib.Dec.{eqb}
 use Rattle.text.specs.Numbering.{nameKey, adding}
@@ -10,7 +10,7 @@ use Rattle.names.specs.Names.{keyAt, nameAt, named, numberAt}
 
 -- any rule would do: what is found does not depend on it
 abbrev pub mixed : ℕ → ℕ → ℕ
-mixed h x = (h * 31 + x) % 65536
+mixed h x = (h * 31 + x) % 8192
 
 unfoldable pub hashFrom : ℕ → List ℕ → ℕ
 hashFrom h [] = h
@@ -18,7 +18,7 @@ hashFrom h (x ∷ xs) = hashFrom (mixed h x) xs
 
 unfoldable pub bucket : List ℕ → ℕ
 bucket [] = 0
-bucket (b ∷ x) = hashFrom b x / 8
+bucket (b ∷ x) = hashFrom b x
 
 -- n names begin inside the text, and each fits a record
 pub record Places (s firsts : List ℕ) (n : ℕ) : Type 0 where

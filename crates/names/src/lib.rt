@@ -50,11 +50,12 @@ fn same_name(classes: &[u8; 256], text: &[u8], a: usize, b: usize) -> bool
     spelled(classes, text, j) == 0
 }
 
+// One byte more of a spelling; the remainder by a power of two takes no division.
 fn mix(h: usize, x: u8) -> usize
-    requires { ⌜ h < 65536 ⌝ }
-    ensures { λ r. ⌜ (r ≡ mixed h x) × (r < 65536) ⌝ }
+    requires { ⌜ h < 8192 ⌝ }
+    ensures { λ r. ⌜ (r ≡ mixed h x) × (r < 8192) ⌝ }
 {
-    (h * 31 + (x as usize)) % 65536
+    (h * 31 + (x as usize)) % 8192
 }
 
 // The bucket of the name that begins at `at`.
@@ -68,12 +69,12 @@ fn bucket_of(classes: &[u8; 256], text: &[u8], at: usize) -> usize
         let b = text[i];
         let x = classes::spelling_of(classes, b);
         if x == 0 {
-            return h / 8;
+            return h;
         }
         h = mix(h, x);
         i += 1;
     }
-    h / 8
+    h
 }
 
 // The number of the name that begins at `at` among the first n: that of the first which equals it, or n.

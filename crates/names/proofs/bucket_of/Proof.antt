@@ -10,7 +10,7 @@ use Rattle.names.proofs.bucket_of.Statement.{statement}
 use Rattle.names.proofs.bucket_of.Tie as tie
 
 abbrev Inv-loop : tie.InvT-loop
-Inv-loop classes text at h₀ i₀ h i = (hashed text h i ≡ bucket (keyAt text at)) × (h < 65536)
+Inv-loop classes text at h₀ i₀ h i = (hashed text h i ≡ bucket (keyAt text at)) × (h < 8192)
 
 abbrev μ-loop : tie.MeasureT-loop
 μ-loop classes text at h₀ i₀ h i = length text - i
@@ -37,7 +37,7 @@ returns : tie.Need-returns Inv-loop μ-loop
 returns c =
     let start = c .before .before .before .before .before .before .before in
     let loop = c .before .before .before .before .loop in
-    (hash-end (start .args .text .now) _ _ (tail-of _ _ (c .before .spelling-of .ensures)) (c .if1 .taken) ∙ loop .inv .0, omega (arith, loop .inv .1))
+    (hash-end (start .args .text .now) _ _ (tail-of _ _ (c .before .spelling-of .ensures)) (c .if1 .taken) ∙ loop .inv .0, loop .inv .1)
 
 mix-requires : tie.Need-mix-requires Inv-loop μ-loop
 mix-requires c κs =
@@ -60,7 +60,7 @@ loop-again c =
     )
 
 returns-2 : tie.Need-returns-2 Inv-loop μ-loop
-returns-2 c = (hash-out _ _ _ (c .loop-test .left) ∙ c .before .loop .inv .0, omega (arith, c .before .loop .inv .1))
+returns-2 c = (hash-out _ _ _ (c .loop-test .left) ∙ c .before .loop .inv .0, c .before .loop .inv .1)
 
 pub bucket-of-spec : {M : Type 1} → statement M
 bucket-of-spec =

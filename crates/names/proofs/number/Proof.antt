@@ -29,10 +29,8 @@ returns c =
     let find = c .before .before .before .before .before .before .before .before .before .before .before .find in
     let if1 = c .before .before .before .before .before .before .before .before .before .before .if1 in
     let add = c .before .before .before .before .before .before .add in
-    let p = c .before .before .before .before .before .before .before .before .before .before .before .before .before .before .before .before .before .before
-    .before .before .pre in
-    numbered-new (p .1 .1 .1) (start .args .at) (p .1 .0 .0) (p .1 .0 .1) (p .1 .1 .0 .1) (p .1 .1 .0 .2) _ (bucket-of .ensures .0) (bucket-of .ensures .1) _
-    (find .ensures) (if1 .taken) (add .ensures)
+    numbered-new (start .pre .1 .1 .1) (start .args .at) _ (find .ensures) (if1 .taken) (start .pre .1 .0) (start .pre .1 .1 .0) (bucket-of .ensures)
+    (add .ensures)
 
 same-length-4 : tie.Need-same-length-4
 same-length-4 c = search needs
@@ -46,10 +44,7 @@ same-length-6 c = search needs
 returns-2 : tie.Need-returns-2
 returns-2 c =
     let start = c .before .before .before .before .before .before .before .before .before .before in
-    let bucket-of = c .before .before .before .before .before .bucket-of in
-    let p = c .before .before .before .before .before .before .before .before .before .before .pre in
-    numbered-old (p .1 .1 .1) (start .args .at) (p .1 .0 .0) (p .1 .0 .1) (p .1 .1 .0 .1) (p .1 .1 .0 .2) _ (bucket-of .ensures .0) (bucket-of .ensures .1) _
-    (c .before .find .ensures) (c .if1 .left)
+    numbered-old (start .pre .1 .1 .1) (start .args .at) _ (c .before .find .ensures) (c .if1 .left)
 
 pub number-spec : {M : Type 1} → statement M
 number-spec =

@@ -40,7 +40,7 @@ same-length c = ap length (c .before .before .write-tail .ensures) ∙ simp (len
 returns : tie.Need-returns
 returns c =
     let start = c .before .before .before .before .before .before .before in
-    c .before .before .write-tail .ensures ∙ key-put (start .args .text .now) (start .args .list .now) _ _ (start .pre .1)
+    key-put (start .args .text .now) (start .args .list .now) _ _ (start .pre .1) (c .before .before .write-tail .ensures)
 
 pub write-key-spec : {M : Type 1} → statement M
 write-key-spec =

@@ -38,11 +38,11 @@ write-key-requires : tie.Need-write-key-requires Inv-loop μ-loop
 write-key-requires c κs =
     let start = c .before .before .before .before .before .before .before .before .before .before .before in
     let clear = c .before .before .before .before .before .before .clear in
-    let loop = c .before .before .before .loop in (
+    let loop = c .before .before .before .loop in
+    let inside = c .before .before .loop-test .taken in (
       start .pre .0,
-      start .pre .1 .inside _ (c .before .before .loop-test .taken),
-      omega
-          (arith, key-short (start .pre .1) _ (c .before .before .loop-test .taken), loop .inv .0 .long, cleared-long (start .args .list .now) (clear .ensures)),
+      start .pre .1 .inside _ inside,
+      omega (arith, key-short (start .pre .1) _ inside, loop .inv .0 .long, cleared-long (start .args .list .now) (clear .ensures)),
     )
 
 add-k : tie.Need-add-k Inv-loop μ-loop

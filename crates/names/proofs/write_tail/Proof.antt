@@ -10,7 +10,8 @@ use Rattle.names.proofs.write_tail.Statement.{statement}
 use Rattle.names.proofs.write_tail.Tie as tie
 
 abbrev Inv-loop : tie.InvT-loop
-Inv-loop classes text from list₀ start len₀ i₀ list len i = Owes list len (tailOf (drop i text)) (sets list₀ start (tailOf (drop from text))) × (length list ≡ length list₀)
+Inv-loop classes text from list₀ start len₀ i₀ list len i =
+    Owes list len (tailOf (drop i text)) (sets list₀ start (tailOf (drop from text))) × (length list ≡ length list₀)
 
 abbrev μ-loop : tie.MeasureT-loop
 μ-loop classes text from list₀ start len₀ i₀ list len i = length text - i
