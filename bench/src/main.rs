@@ -31,6 +31,8 @@ mod matching;
 mod notation;
 #[path = "../../tests/reference/src/text.rs"]
 mod text;
+#[path = "../../tests/reference/src/token.rs"]
+mod token;
 #[path = "../../tests/reference/src/worked.rs"]
 mod worked;
 

@@ -36,7 +36,7 @@ pub enum Spot {
 }
 
 /// What the elements before this one have left behind.
-struct Reading {
+pub struct Reading {
     spot: Spot,
     sentences: usize,
     count: usize,
@@ -45,7 +45,7 @@ struct Reading {
 }
 
 pub fn first_fault(bytes: &[u8], spot: Spot) -> Option<Fault> {
-    let mut reading = Reading { spot, sentences: 0, count: 0, variables: Vec::new(), open: Vec::new() };
+    let mut reading = Reading::new(spot);
     let mut place = 0;
     while place < bytes.len() {
         match reading.element(&bytes[place..]) {
@@ -53,13 +53,25 @@ pub fn first_fault(bytes: &[u8], spot: Spot) -> Option<Fault> {
             Err(reason) => return Some(Fault { place, reason }),
         }
     }
-    let whole = reading.spot == Spot::AfterProgram || reading.spot == Spot::Field && reading.open.is_empty();
-    (!whole).then_some(Fault { place, reason: EARLY_END })
+    (!reading.is_whole()).then_some(Fault { place, reason: EARLY_END })
 }
 
 impl Reading {
+    pub fn new(spot: Spot) -> Reading {
+        Reading { spot, sentences: 0, count: 0, variables: Vec::new(), open: Vec::new() }
+    }
+
+    pub fn spot(&self) -> Spot {
+        self.spot
+    }
+
+    /// Whether the bytes may end here.
+    pub fn is_whole(&self) -> bool {
+        self.spot == Spot::AfterProgram || self.spot == Spot::Field && self.open.is_empty()
+    }
+
     /// Reads one element if it is good, given those before it.
-    fn element<'a>(&mut self, rest: &'a [u8]) -> Result<&'a [u8], u8> {
+    pub fn element<'a>(&mut self, rest: &'a [u8]) -> Result<&'a [u8], u8> {
         let body = body_length(rest[0]).ok_or(UNKNOWN)?;
         let element = rest.get(..1 + body).ok_or(CUT_SHORT)?;
         match self.fault(element) {

@@ -10,31 +10,44 @@ mod expand;
 mod invent;
 mod machine;
 mod make_checks;
+mod make_long_texts;
 mod make_machine;
 mod make_matching;
+mod make_text_limits;
+mod make_texts;
 mod manual;
 mod matching;
 mod notation;
 mod planner;
+mod readings;
+mod spelled;
 #[cfg(test)]
 mod tests;
 mod text;
+mod text_laws;
+mod token;
 mod worked;
+mod worked_texts;
 
 use std::collections::BTreeMap;
 use std::path::Path;
 
 const USAGE: &str = "\
-reference cases DIR                   writes the case files into DIR/data, and their print to DIR/stdout
+reference cases DIR                   writes each set's case files into DIR/SET/data, and their print to DIR/SET/stdout
 reference manual                      lists the manual's programs, whose runs are confirmed
 reference expand DIR                  prints what expand prints for DIR/rules.bin and DIR/start.bin
 reference planner DIR                 prints what the planners print for DIR/rules.bin and DIR/start.bin
 reference bytes FILE.ref... OUT.bin   writes the last text's bytes; the texts share one name list
 reference check-brute                 compares the two matchers";
 
-/// The case files, in the order in which the program runs them.
-const FILES: [(&str, fn(&mut Made)); 4] =
-    [("checks", checks), ("matching", matching), ("machine", machine), ("desk", desk)];
+/// A case file and what makes it.
+type File = (&'static str, fn(&mut Made));
+
+/// A set for each program that runs cases, with its files in the order in which it runs them.
+const SETS: [(&str, &[File]); 2] = [
+    ("cases", &[("checks", checks), ("matching", matching), ("machine", machine), ("desk", desk)]),
+    ("reading_cases", &[("texts", texts)]),
+];
 
 /// A case file, its expected print, and how many cases there are of each sort.
 #[derive(Default)]
@@ -110,6 +123,18 @@ fn desk(made: &mut Made) {
     }
 }
 
+fn texts(made: &mut Made) {
+    for case in make_texts::cases() {
+        made.bytes(&case.text);
+        made.number(case.program_room);
+        made.number(case.list_room);
+        made.cases.push(case.fill);
+        let (code, line) = case.read();
+        made.expect(&line, format!("{}: code {code}", case.sort));
+        *made.counts.entry(format!("all: code {code}")).or_default() += 1;
+    }
+}
+
 fn check_brute() {
     let cases = make_matching::cases();
     for case in &cases {
@@ -133,11 +158,11 @@ fn bytes(texts: &[&str], out: &str) -> Result<(), String> {
     Ok(())
 }
 
-/// Writes the case files and their print, and says what is in each.
-fn write(directory: &Path) -> std::io::Result<()> {
+/// Writes a set's case files and their print, and says what is in each.
+fn write(directory: &Path, files: &[File]) -> std::io::Result<()> {
     let mut lines = String::new();
     std::fs::create_dir_all(directory.join("data"))?;
-    for (name, make) in FILES {
+    for (name, make) in files {
         let mut made = Made::default();
         make(&mut made);
         std::fs::write(directory.join("data").join(name), &made.cases)?;
@@ -148,10 +173,17 @@ fn write(directory: &Path) -> std::io::Result<()> {
     std::fs::write(directory.join("stdout"), lines)
 }
 
+fn write_sets(directory: &str) -> Result<(), String> {
+    for (set, files) in SETS {
+        write(&Path::new(directory).join(set), files).map_err(|fault| format!("{directory}/{set}: {fault}"))?;
+    }
+    Ok(())
+}
+
 fn act(words: &[&str]) -> Result<(), String> {
     match *words {
         ["check-brute"] => check_brute(),
-        ["cases", directory] => return write(Path::new(directory)).map_err(|fault| format!("{directory}: {fault}")),
+        ["cases", directory] => return write_sets(directory),
         ["manual"] => manual::programs().iter().zip(manual::FILES).for_each(|(_, (name, _))| println!("{name}")),
         ["expand", directory] => print!("{}", expand::expand(Path::new(directory))),
         ["planner", directory] => {
@@ -166,6 +198,7 @@ fn act(words: &[&str]) -> Result<(), String> {
 
 fn main() {
     worked::confirm();
+    worked_texts::confirm();
     let words: Vec<String> = std::env::args().skip(1).collect();
     let words: Vec<&str> = words.iter().map(String::as_str).collect();
     if let Err(fault) = act(&words) {

@@ -78,6 +78,11 @@ pub fn programs() -> Vec<Program> {
     good.into_iter().flatten().collect()
 }
 
+/// The Refal texts alone.
+pub fn texts() -> impl Iterator<Item = &'static str> {
+    FILES.iter().flat_map(|(_, text)| parts(text)).filter(|(heading, _)| *heading == "program").map(|(_, body)| body)
+}
+
 fn program(text: &str) -> Result<Program, String> {
     let mut names = Names::default();
     let mut program = Program { bytes: Vec::new(), runs: Vec::new() };

@@ -4,11 +4,26 @@ use crate::machine::*;
 use crate::matching::{all_fits, e_lengths, e_variables, first_fit, put_in};
 use crate::notation::bytes;
 use crate::text::{read, Names};
-use crate::{expand, make_machine, make_matching, manual, worked};
+use crate::{expand, make_machine, make_matching, make_texts, manual, worked, worked_texts};
+use std::collections::BTreeMap;
 
 #[test]
 fn worked_cases_are_as_printed() {
     worked::confirm();
+}
+
+#[test]
+fn worked_texts_are_read_as_by_hand() {
+    worked_texts::confirm();
+}
+
+#[test]
+fn every_refusal_of_a_text_comes_often() {
+    let mut counts = BTreeMap::new();
+    for case in make_texts::cases() {
+        *counts.entry(case.read().0).or_insert(0) += 1;
+    }
+    assert!(counts.keys().eq([0, 4, 5, 8].iter()) && counts.values().all(|count| *count >= 100), "{counts:?}");
 }
 
 #[test]
