@@ -9,10 +9,10 @@ use lib.ListN.{length, drop, replicate, length-append}
 use lib.Dec.{eqb, leb, ltb}
 use borrow.Author.Tests.{eqb-true, eqb-false, leb-true, ne-eqb}
 use Rattle.meaning.specs.Elements.{Element, kind, same}
-use Rattle.meaning.specs.Goodness.{empty, span}
+use Rattle.meaning.specs.Goodness.{span}
 use Rattle.meaning.proofs.Truth.{is-true, is-false, see, or-false, and-left, and-right, same-eq, same-refl}
 use Rattle.text.specs.Classes.{classOf, of, isCapital, isLetter, isDigit, inName, inLine, endsLine, front, spell}
-use Rattle.text.specs.Tokens.{Token, malformed, name, call, macrodigit, string, variable, sign, Lexeme, token, gap, wrong, identifier, asName, asCall, real, value, number, trim, dotted, apart, indexed, Quoted, unclosed, closed, quoted, asString, commented, asGap, slashed, lexOf, lex, Placed, placed, follow, tokens}
+use Rattle.text.specs.Tokens.{Token, malformed, name, call, macrodigit, string, variable, sign, Lexeme, token, gap, wrong, spelled, identifier, asName, asCall, real, value, number, trim, dotted, apart, indexed, Quoted, unclosed, closed, quoted, asString, commented, asGap, slashed, lexOf, lex, Placed, placed, follow, tokens}
 use Rattle.text.specs.Numbering.{Key, nameKey, numberOf, has, adding}
 use Rattle.text.specs.Reading.{element}
 use Rattle.text.specs.Agreeing.{naming, Counted, over, other, known, first, Distinct, alone, besides}
@@ -83,7 +83,7 @@ unfolding of classOf span
 capital-solid b h e = absurd (let z : false ≡ true = rw e at h in (let w : _≡_ {A = ℕ} 0 1 = cc in omega arith))
 
 identifier-spelt : (bs : List ℕ) → SpeltO (identifier bs)
-unfolding identifier
+unfolding identifier spelled
 identifier-spelt [] = tt
 identifier-spelt (b ∷ bs) =
     elim (see (isCapital b && leb (length (front inName bs)) 14)) [
@@ -105,15 +105,15 @@ number-proper : (ds rest : List ℕ) → ProperL (number ds rest)
 unfolding number
 number-proper ds rest = cond-proper (real rest || ltb 4294967295 (value 0 ds)) _ _ tt tt
 
-dotted-proper : (b : ℕ) (x : List ℕ) → ProperL (dotted b x)
+dotted-proper : (b : ℕ) (ds x : List ℕ) → ProperL (dotted b ds x)
 unfolding dotted
-dotted-proper b [] = tt
-dotted-proper b (c ∷ x) = cond-proper (isDigit c && empty (drop (length (front isDigit x)) x)) _ _ tt (cond-proper (isLetter c && leb (length x) 14) _ _ tt tt)
+dotted-proper b ds [] = tt
+dotted-proper b ds (c ∷ x) = cond-proper (eqb (length ds) (suc (length x))) _ _ tt (cond-proper (isLetter c && leb (length x) 14) _ _ tt tt)
 
 indexed-proper : (b : ℕ) (bs : List ℕ) → ProperL (indexed b bs)
 unfolding indexed
 indexed-proper b [] = tt
-indexed-proper b (c ∷ bs) = cond-proper (eqb c 46) _ _ (dotted-proper b (front inName bs)) (cond-proper ((isCapital c || isDigit c) && apart bs) _ _ tt tt)
+indexed-proper b (c ∷ bs) = cond-proper (eqb c 46) _ _ (dotted-proper b (front isDigit bs) (front inName bs)) (cond-proper ((isCapital c || isDigit c) && apart bs) _ _ tt tt)
 
 string-proper : (x : Quoted) → ProperL (asString x)
 string-proper unclosed = tt

@@ -5,7 +5,6 @@ use mathlib.Core.List.{List, [], _∷_, map}
 use Prim.Native.Nat.{ℕ, zero, suc, _+_, _-_, _*_}
 use lib.ListN.{length, drop}
 use lib.Dec.{eqb, leb, ltb}
-use Rattle.meaning.specs.Goodness.{empty}
 use Rattle.text.specs.Classes.{classOf, isCapital, isLetter, isType, isDigit, inName, endsLine, inLine, front, spell}
 
 pub data Token : Type 0 where
@@ -30,10 +29,15 @@ pub data Lexeme : Type 0 where
 abbrev pub wrong : Lexeme
 wrong = token malformed 0
 
+-- a name at the front, in its one spelling: its first byte, then "later letters small, dashes"
+unfoldable pub spelled : List ℕ → List ℕ
+spelled [] = []
+spelled (b ∷ bs) = b ∷ map spell (front inName bs)
+
 -- "An identifier ... has a capital first and at most 15 characters"
 unfoldable pub identifier : List ℕ → Option (List ℕ)
 identifier [] = none
-identifier (b ∷ bs) = cond (isCapital b && leb (length (front inName bs)) 14) (some (b ∷ map spell (front inName bs))) none
+identifier (b ∷ bs) = cond (isCapital b && leb (length (front inName bs)) 14) (some (spelled (b ∷ bs))) none
 
 abbrev pub asName : Option (List ℕ) → Lexeme
 asName none = wrong
@@ -65,11 +69,11 @@ trim [] = []
 trim (d ∷ []) = d ∷ []
 trim (d ∷ x ∷ ds) = elim (eqb d 48) [ true ↦ trim (x ∷ ds) | false ↦ d ∷ x ∷ ds ]
 
--- an index behind a dot, from its longest run: all digits, or an identifier whose first letter is in either case
-unfoldable pub dotted : ℕ → List ℕ → Lexeme
-dotted letter [] = wrong
-dotted letter (b ∷ x) =
-    cond (isDigit b && empty (drop (length (front isDigit x)) x)) (token (variable letter (trim (b ∷ x))) (2 + length x))
+-- an index behind a dot, from its longest runs of digits and of bytes of a name: a number, or an identifier whose first letter is in either case
+unfoldable pub dotted : ℕ → List ℕ → List ℕ → Lexeme
+dotted letter digits [] = wrong
+dotted letter digits (b ∷ x) =
+    cond (eqb (length digits) (suc (length x))) (token (variable letter (trim digits)) (2 + length x))
     (cond (isLetter b && leb (length x) 14) (token (variable letter (map spell (b ∷ x))) (2 + length x)) wrong)
 
 -- after a variable without a dot nothing of an identifier follows at once, but another variable may
@@ -81,7 +85,7 @@ apart (b ∷ bs) = not (inName b) || isType b
 unfoldable pub indexed : ℕ → List ℕ → Lexeme
 indexed letter [] = wrong
 indexed letter (b ∷ bs) =
-    cond (eqb b 46) (dotted letter (front inName bs))
+    cond (eqb b 46) (dotted letter (front isDigit bs) (front inName bs))
     (cond ((isCapital b || isDigit b) && apart bs) (token (variable letter (spell b ∷ [])) 1) wrong)
 
 -- a string's characters, and how many bytes it has behind its opening quote
@@ -89,11 +93,11 @@ pub data Quoted : Type 0 where
   unclosed : Quoted
   closed : List ℕ → ℕ → Quoted
 
-abbrev pub longer : Quoted → Quoted
+unfoldable pub longer : Quoted → Quoted
 longer unclosed = unclosed
 longer (closed x n) = closed x (suc n)
 
-abbrev pub before : ℕ → Quoted → Quoted
+unfoldable pub before : ℕ → Quoted → Quoted
 before b unclosed = unclosed
 before b (closed x n) = closed (b ∷ x) (suc n)
 
@@ -110,7 +114,7 @@ abbrev pub asString : Quoted → Lexeme
 asString unclosed = wrong
 asString (closed x n) = cond (leb (length x) 255) (token (string x) n) wrong
 
-abbrev pub further : Option ℕ → Option ℕ
+unfoldable pub further : Option ℕ → Option ℕ
 further none = none
 further (some n) = some (suc n)
 
