@@ -1,0 +1,4 @@
+pub mod Strings
+pub mod Digits
+pub mod Comments
+pub mod Lexing
