@@ -16,7 +16,7 @@ use Rattle.text.specs.Tokens.{Token, malformed, name, call, macrodigit, 
 use Rattle.text.specs.Numbering.{Key, nameKey, numberOf, has, adding}
 use Rattle.text.specs.Agreeing.{naming, Counted, over, Distinct, alone}
 use Rattle.text.proofs.Names.{Proper, Spelt, AllProper, no-token, one-more, tokens-proper, AllNamed, no-name, named-key, named-snoc, number-known, number-new, adding-known, adding-new, counted-other, counted-known, counted-first, distinct-snoc}
-use Rattle.text.specs.Reading.{digits, element, Phase, free, between, owed, named, inside, Reader, reader, phaseAfter, kept, putAll, closing, partOf, typeOf, signed, putSome, within, heading, enter, isSign, Said, says, amiss, saying, finish, reads, begin, said}
+use Rattle.text.specs.Reading.{digits, element, Phase, free, between, owed, named, inside, Reader, reader, phaseAfter, kept, putAll, closing, partOf, typeOf, signed, putSome, numberIn, namesWith, variablesWith, within, heading, entering, enter, isSign, Said, says, amiss, saying, finish, reads, begin, said}
 
 pub never : {A : Type 0} → false ≡ true → A
 never h = absurd (let z : _≡_ {A = ℕ} 0 1 = cc in omega arith)
@@ -192,37 +192,59 @@ plain-type b =
       | is-false h ↦ elim (see (eqb b 116)) [ is-true k ↦ rw (h, k) | is-false k ↦ rw (h, k) ]
     ]
 
-within-kept : (t : Token) → Proper t → (ns vs : List Key) (s : State) (out : List Element) → Sound ns s out → Kept (within t ns vs s out)
-unfolding within naming
-within-kept malformed p ns vs s out h = tt
-within-kept (name x) p ns vs s out h = name-kept 2 x refl p inside ns vs s out h
-within-kept (call x) p ns vs s out h = name-kept 6 x refl p inside ns vs s out h
-within-kept (macrodigit n) p ns vs s out h = put-kept (plain-one 3 n refl) _ h
-within-kept (string x) p ns vs s out h = put-kept (plain-string x) _ h
-within-kept (variable b x) p ns vs s out h = put-kept (plain-one (typeOf b) (numberOf (typeOf b ∷ x) vs) (plain-type b)) _ h
-within-kept (sign c) p ns vs s out h = some-kept (signed (partOf s) c) (plain-signed (partOf s) c) _ h
+-- what a token makes in some phase: elements without a name, or one with its name's number
+data Makes (ns : List Key) : Token → Option (List Element) → Type 0 where
+  makes-plain : {t : Token} {o : Option (List Element)} → namesWith t ns ≡ ns → PlainO o → Makes ns t o
+  makes-named : (t : Token) (x : List ℕ) (j : ℕ) → Spelt x → naming j ≡ true → namesWith t ns ≡ adding (nameKey x) ns → Makes ns t (some (element j (numberOf (nameKey x) ns) ∷ []))
+  makes-none : {t : Token} → Makes ns t none
 
-heading-kept : (t : Token) → Proper t → (ns : List Key) (s : State) (out : List Element) → Sound ns s out → Kept (heading t ns s out)
-unfolding heading naming
-heading-kept malformed p ns s out h = tt
-heading-kept (name x) p ns s out h = name-kept 13 x refl p free ns [] s out h
-heading-kept (call x) p ns s out h = tt
-heading-kept (macrodigit n) p ns s out h = tt
-heading-kept (string x) p ns s out h = tt
-heading-kept (variable b x) p ns s out h = tt
-heading-kept (sign c) p ns s out h = tt
+makes-kept : {ns : List Key} {t : Token} {o : Option (List Element)} → Makes ns t o → (p : Phase) (vs : List Key) (s : State) (out : List Element) → Sound ns s out → Kept (putSome o (reader p (namesWith t ns) vs s out))
+unfolding putSome
+makes-kept {o = o} (makes-plain e q) p vs s out h = rw e (some-kept o q (reader p _ vs s out) h)
+makes-kept {ns} (makes-named t x j sp n e) p vs s out h = rw e (name-kept j x n sp p ns vs s out h)
+makes-kept makes-none p vs s out h = tt
 
-cond-kept : (b : Bool) (x y : Option Reader) → Kept x → Kept y → Kept (cond b x y)
-cond-kept true x y h k = h
-cond-kept false x y h k = k
+within-makes : (t : Token) → Proper t → (p : Part) (ns vs : List Key) → Makes ns t (within p t (numberIn t ns vs))
+unfolding within numberIn namesWith naming
+within-makes malformed h p ns vs = makes-none
+within-makes (name x) h p ns vs = makes-named (name x) x 2 h refl refl
+within-makes (call x) h p ns vs = makes-named (call x) x 6 h refl refl
+within-makes (macrodigit v) h p ns vs = makes-plain refl (plain-one 3 v refl)
+within-makes (string x) h p ns vs = makes-plain refl (plain-string x)
+within-makes (variable b x) h p ns vs = makes-plain refl (plain-one (typeOf b) (numberOf (typeOf b ∷ x) vs) (plain-type b))
+within-makes (sign c) h p ns vs = makes-plain refl (plain-signed p c)
+
+heading-makes : (t : Token) → Proper t → (ns vs : List Key) → Makes ns t (heading t (numberIn t ns vs))
+unfolding heading numberIn namesWith naming
+heading-makes malformed h ns vs = makes-none
+heading-makes (name x) h ns vs = makes-named (name x) x 13 h refl refl
+heading-makes (call x) h ns vs = makes-none
+heading-makes (macrodigit v) h ns vs = makes-none
+heading-makes (string x) h ns vs = makes-none
+heading-makes (variable b x) h ns vs = makes-none
+heading-makes (sign c) h ns vs = makes-none
+
+-- a sign brings no name
+sign-names : (c : ℕ) (t : Token) (ns : List Key) → isSign c t ≡ true → namesWith t ns ≡ ns
+unfolding namesWith
+sign-names c malformed ns h = refl
+sign-names c (name x) ns h = never h
+sign-names c (call x) ns h = never h
+sign-names c (macrodigit n) ns h = refl
+sign-names c (string x) ns h = refl
+sign-names c (variable b x) ns h = refl
+sign-names c (sign d) ns h = refl
+
+sign-kept : (c : ℕ) (t : Token) (p : Phase) (ns vs : List Key) (s : State) (out : List Element) (y : Option Reader) → Sound ns s out → Kept y → Kept (cond (isSign c t) (some (reader p (namesWith t ns) vs s out)) y)
+sign-kept c t p ns vs s out y h k = elim (see (isSign c t)) [ is-true e ↦ rw (e, sign-names c t ns e) h | is-false e ↦ rw e k ]
 
 enter-kept : (t : Token) → Proper t → (r : Reader) → SoundR r → Kept (enter t r)
-unfolding enter
-enter-kept t p (reader free ns vs s out) h = heading-kept t p ns s out h
-enter-kept t p (reader between ns vs s out) h = cond-kept (isSign 59 t) _ _ h (heading-kept t p ns s out h)
-enter-kept t p (reader owed ns vs s out) h = heading-kept t p ns s out h
-enter-kept t p (reader named ns vs s out) h = cond-kept (isSign 123 t) _ _ h tt
-enter-kept t p (reader inside ns vs s out) h = within-kept t p ns vs s out h
+unfolding enter entering
+enter-kept t p (reader free ns vs s out) h = makes-kept (heading-makes t p ns vs) free (variablesWith t vs) s out h
+enter-kept t p (reader between ns vs s out) h = sign-kept 59 t owed ns (variablesWith t vs) s out _ h (makes-kept (heading-makes t p ns vs) between (variablesWith t vs) s out h)
+enter-kept t p (reader owed ns vs s out) h = makes-kept (heading-makes t p ns vs) owed (variablesWith t vs) s out h
+enter-kept t p (reader named ns vs s out) h = sign-kept 123 t inside ns (variablesWith t vs) s out none h tt
+enter-kept t p (reader inside ns vs s out) h = makes-kept (within-makes t p (partOf s) ns vs) inside (variablesWith t vs) s out h
 
 -- 0F can be put outside functions only, and ends the program
 last-whole : (s : State) → eqb (fault s (element 15 0)) 0 ≡ true → mayEnd (stateAfter s (element 15 0)) ≡ true
@@ -265,8 +287,8 @@ unfolding finish
 finish-fine n (reader free ns vs s out) h = fine-end free ns vs s out n h
 finish-fine n (reader between ns vs s out) h = fine-end between ns vs s out n h
 finish-fine n (reader owed ns vs s out) h = tt
-finish-fine n (reader named ns vs s out) h = tt
-finish-fine n (reader inside ns vs s out) h = tt
+finish-fine n (reader named ns vs s out) h = fine-end named ns vs s out n h
+finish-fine n (reader inside ns vs s out) h = fine-end inside ns vs s out n h
 
 reads-fine : (n : ℕ) {ts : List Placed} → AllProper ts → (r : Reader) → SoundR r → Fine (reads n ts r)
 unfolding reads

@@ -61,8 +61,8 @@ unfolding finish
 finish-meant n (reader free ns vs s out) = saying-meant n (putAll (element 15 0 ∷ []) (reader free ns vs s out))
 finish-meant n (reader between ns vs s out) = saying-meant n (putAll (element 15 0 ∷ []) (reader between ns vs s out))
 finish-meant n (reader owed ns vs s out) = refl
-finish-meant n (reader named ns vs s out) = refl
-finish-meant n (reader inside ns vs s out) = refl
+finish-meant n (reader named ns vs s out) = saying-meant n (putAll (element 15 0 ∷ []) (reader named ns vs s out))
+finish-meant n (reader inside ns vs s out) = saying-meant n (putAll (element 15 0 ∷ []) (reader inside ns vs s out))
 
 reads-told : (n : ℕ) (ts : List Placed) (r : Reader) → meant (reads n ts r) ≡ told (spoken ts) r
 unfolding reads told

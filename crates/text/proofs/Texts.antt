@@ -10,7 +10,7 @@ use Rattle.meaning.specs.Goodness.{span, stands, endsSide, paired, underLimit, 
 use Rattle.text.specs.Classes.{classOf, of, front}
 use Rattle.text.specs.Tokens.{spelled, identifier, real, value, number, trim, dotted, apart, indexed, longer, before, quoted, further, commented, slashed, lexOf, lex, follow, tokens}
 use Rattle.text.specs.Numbering.{Key, nameKey, numberOf, has, adding}
-use Rattle.text.specs.Reading.{digits, element, kept, phaseAfter, putAll, closing, typeOf, signed, putSome, within, heading, enter, Said, says, amiss, finish, reads, said}
+use Rattle.text.specs.Reading.{digits, element, kept, phaseAfter, putAll, closing, typeOf, signed, numberIn, namesWith, variablesWith, putSome, within, heading, entering, enter, Said, says, amiss, finish, reads, said}
 
 -- the bytes of a text
 abbrev bytes : String → List ℕ
@@ -151,5 +151,5 @@ unfolding texts every right
     classOf of front
     spelled identifier real value number trim dotted apart indexed longer before quoted further commented slashed lexOf lex follow tokens
     nameKey numberOf has adding
-    digits element kept phaseAfter putAll closing typeOf signed putSome within heading enter finish reads said
+    digits element kept phaseAfter putAll closing typeOf signed putSome numberIn namesWith variablesWith within heading entering enter finish reads said
 worked = tt

@@ -72,25 +72,54 @@ unfoldable pub putSome : Option (List Element) → Reader → Option Reader
 putSome none r = none
 putSome (some es) r = putAll es r
 
--- what a token makes inside a function's braces
-unfoldable pub within : Token → List Key → List Key → State → List Element → Option Reader
-within malformed ns vs s out = none
-within (name x) ns vs s out = putAll (element 2 (numberOf (nameKey x) ns) ∷ []) (reader inside (adding (nameKey x) ns) vs s out)
-within (call x) ns vs s out = putAll (element 6 (numberOf (nameKey x) ns) ∷ []) (reader inside (adding (nameKey x) ns) vs s out)
-within (macrodigit n) ns vs s out = putAll (element 3 n ∷ []) (reader inside ns vs s out)
-within (string x) ns vs s out = putAll (map (element 1) x) (reader inside ns vs s out)
-within (variable b x) ns vs s out = putAll (element (typeOf b) (numberOf (typeOf b ∷ x) vs) ∷ []) (reader inside ns (adding (typeOf b ∷ x) vs) s out)
-within (sign c) ns vs s out = putSome (signed (partOf s) c) (reader inside ns vs s out)
+-- the number of a token's name or variable, among those before it
+unfoldable pub numberIn : Token → List Key → List Key → ℕ
+numberIn malformed ns vs = 0
+numberIn (name x) ns vs = numberOf (nameKey x) ns
+numberIn (call x) ns vs = numberOf (nameKey x) ns
+numberIn (macrodigit n) ns vs = 0
+numberIn (string x) ns vs = 0
+numberIn (variable b x) ns vs = numberOf (typeOf b ∷ x) vs
+numberIn (sign c) ns vs = 0
+
+-- the names, and the variables of this sentence, with the token's own
+unfoldable pub namesWith : Token → List Key → List Key
+namesWith malformed ns = ns
+namesWith (name x) ns = adding (nameKey x) ns
+namesWith (call x) ns = adding (nameKey x) ns
+namesWith (macrodigit n) ns = ns
+namesWith (string x) ns = ns
+namesWith (variable b x) ns = ns
+namesWith (sign c) ns = ns
+
+unfoldable pub variablesWith : Token → List Key → List Key
+variablesWith malformed vs = vs
+variablesWith (name x) vs = vs
+variablesWith (call x) vs = vs
+variablesWith (macrodigit n) vs = vs
+variablesWith (string x) vs = vs
+variablesWith (variable b x) vs = adding (typeOf b ∷ x) vs
+variablesWith (sign c) vs = vs
+
+-- what a token makes inside a function's braces; its name or variable has the number n
+unfoldable pub within : Part → Token → ℕ → Option (List Element)
+within p malformed n = none
+within p (name x) n = some (element 2 n ∷ [])
+within p (call x) n = some (element 6 n ∷ [])
+within p (macrodigit v) n = some (element 3 v ∷ [])
+within p (string x) n = some (map (element 1) x)
+within p (variable b x) n = some (element (typeOf b) n ∷ [])
+within p (sign c) n = signed p c
 
 -- a function's name makes its header
-unfoldable pub heading : Token → List Key → State → List Element → Option Reader
-heading malformed ns s out = none
-heading (name x) ns s out = putAll (element 13 (numberOf (nameKey x) ns) ∷ []) (reader free (adding (nameKey x) ns) [] s out)
-heading (call x) ns s out = none
-heading (macrodigit n) ns s out = none
-heading (string x) ns s out = none
-heading (variable b x) ns s out = none
-heading (sign c) ns s out = none
+unfoldable pub heading : Token → ℕ → Option (List Element)
+heading malformed n = none
+heading (name x) n = some (element 13 n ∷ [])
+heading (call x) n = none
+heading (macrodigit v) n = none
+heading (string x) n = none
+heading (variable b x) n = none
+heading (sign c) n = none
 
 -- the token is the sign c
 abbrev pub isSign : ℕ → Token → Bool
@@ -102,13 +131,17 @@ isSign c (string x) = false
 isSign c (variable b x) = false
 isSign c (sign d) = eqb c d
 
--- one token more; none: it is malformed, cannot stand here, or would make a bad element
+-- a token with the number n, among the names and variables; none: it is malformed, cannot stand here, or would make a bad element
+unfoldable pub entering : Token → ℕ → Reader → Option Reader
+entering t n (reader free ns vs s out) = putSome (heading t n) (reader free ns vs s out)
+entering t n (reader between ns vs s out) = cond (isSign 59 t) (some (reader owed ns vs s out)) (putSome (heading t n) (reader between ns vs s out))
+entering t n (reader owed ns vs s out) = putSome (heading t n) (reader owed ns vs s out)
+entering t n (reader named ns vs s out) = cond (isSign 123 t) (some (reader inside ns vs s out)) none
+entering t n (reader inside ns vs s out) = putSome (within (partOf s) t n) (reader inside ns vs s out)
+
+-- one token more
 unfoldable pub enter : Token → Reader → Option Reader
-enter t (reader free ns vs s out) = heading t ns s out
-enter t (reader between ns vs s out) = cond (isSign 59 t) (some (reader owed ns vs s out)) (heading t ns s out)
-enter t (reader owed ns vs s out) = heading t ns s out
-enter t (reader named ns vs s out) = cond (isSign 123 t) (some (reader inside ns vs s out)) none
-enter t (reader inside ns vs s out) = within t ns vs s out
+enter t (reader p ns vs s out) = entering t (numberIn t ns vs) (reader p (namesWith t ns) (variablesWith t vs) s out)
 
 -- what a text says: elements and names; or that it is bad, and where
 pub data Said : Type 0 where
@@ -119,13 +152,13 @@ abbrev pub saying : ℕ → Option Reader → Said
 saying n none = amiss n
 saying n (some (reader p ns vs s out)) = says out ns
 
--- the end of a text of n bytes makes 0F; "the text's length if it ends early"
+-- the end of a text of n bytes makes 0F, but not behind a ; that parts functions; "the text's length if it ends early"
 unfoldable pub finish : ℕ → Reader → Said
 finish n (reader free ns vs s out) = saying n (putAll (element 15 0 ∷ []) (reader free ns vs s out))
 finish n (reader between ns vs s out) = saying n (putAll (element 15 0 ∷ []) (reader between ns vs s out))
 finish n (reader owed ns vs s out) = amiss n
-finish n (reader named ns vs s out) = amiss n
-finish n (reader inside ns vs s out) = amiss n
+finish n (reader named ns vs s out) = saying n (putAll (element 15 0 ∷ []) (reader named ns vs s out))
+finish n (reader inside ns vs s out) = saying n (putAll (element 15 0 ∷ []) (reader inside ns vs s out))
 
 -- "the offset of the first token that is malformed or would make a bad element"
 unfoldable pub reads : ℕ → List Placed → Reader → Said

@@ -15,8 +15,8 @@ use Rattle.meaning.proofs.Truth.{is-true, is-false, see, or-right, and-right, s
 use Rattle.text.specs.Classes.{classOf, of, isCapital, isLetter, isDigit, inName, inLine, front, spell}
 use Rattle.text.specs.Tokens.{name, call, string, variable, sign, Lexeme as Meant, token, gap, wrong, spelled, identifier, asName, asCall, real, value, number, trim, dotted, apart, indexed, Quoted as Chars, unclosed, closed, quoted, asString, commented, asGap, slashed, lexOf, lex}
 use Rattle.classes.specs.Table.{spelling, part}
-use Rattle.classes.proofs.Runs.{of-yes, of-low, of-high, of-eq, of-ne, run-yes, run-no, run-past}
-use Rattle.tokens.specs.Lexemes.{lengthOf, closedAt, pastAt, Sums, columnAt, numberAt, starredAt, Trimmed, dottedAt, lexAt, charactersOf, lexemeOf, Tells}
+use Rattle.classes.proofs.Runs.{of-yes, of-low, of-high, of-eq, of-ne, run-yes, run-no, run-past, run-most}
+use Rattle.tokens.specs.Lexemes.{lengthOf, closedAt, pastAt, Sums, columnAt, numberAt, starredAt, Trimmed, dottedAt, lexAt, charactersOf, tokenOf, lexemeOf, Proper, Tells}
 use Rattle.tokens.specs.declared.Token.{Token}
 use Rattle.tokens.specs.declared.Token.the-variants as T
 use Rattle.tokens.specs.declared.Lexeme.{Lexeme}
@@ -25,14 +25,18 @@ use Rattle.tokens.specs.declared.Quoted.the-variants as Q
 use Rattle.tokens.proofs.Digits.{cap-over, cap-under}
 use Rattle.tokens.proofs.Comments.{one-class}
 
+-- a token that ends at e stands for x
+abbrev pub Whole : List ℕ → ℕ → Token → ℕ → Meant → Type 0
+Whole s at t e x = (at < e) × (lexemeOf s at t (e - (at + 1)) ≡ x) × Proper s at t e
+
 -- a lexeme made of a token and its end
-pub tells : {s : List ℕ} {at : ℕ} {r : Lexeme} {x : Meant} (t : Token) (e : ℕ) → (r .token ≡ t) × (r .end ≡ e) → (at < e) × (lexemeOf s at t (e - (at + 1)) ≡ x) → Tells s at r x
-tells t e (p, q) (l, h) = record { is = rw (p, q) h; ahead = rw q l }
+pub tells : {s : List ℕ} {at : ℕ} {r : Lexeme} {x : Meant} (t : Token) (e : ℕ) → (r .token ≡ t) × (r .end ≡ e) → Whole s at t e x → Tells s at r x
+tells t e (p, q) (l, h, o) = record { is = rw (p, q) h; ahead = rw q l; proper = rw (p, q) o }
 
 -- a malformed one
 pub tells-wrong : {s : List ℕ} {at : ℕ} {r : Lexeme} {x : Meant} → (r .token ≡ T.Malformed) × (r .end ≡ at + 1) → wrong ≡ x → Tells s at r x
-unfolding lexemeOf
-tells-wrong {at = at} m h = tells T.Malformed (at + 1) m (omega arith, h)
+unfolding lexemeOf tokenOf
+tells-wrong {at = at} m h = tells T.Malformed (at + 1) m (omega arith, h, tt)
 
 -- a test of a byte by its class
 pub by-span : (lo hi k b : ℕ) → k ≡ classOf b → of lo hi b ≡ span lo hi k
@@ -48,6 +52,14 @@ pub data Identified (bs : List ℕ) : Type 0 where
 length-spell : (xs : List ℕ) → length (map spell xs) ≡ length xs
 length-spell [] = refl
 length-spell (x ∷ xs) = ap suc (length-spell xs)
+
+spelled-inside : (s : List ℕ) (i : ℕ) → 0 < length (spelled (drop i s)) → i < length s
+unfolding spelled
+spelled-inside s i h =
+    elim (see (leb (length s) i)) [
+      | is-true l ↦ absurd (omega (arith, h, ap (λ (x : List ℕ). length (spelled x)) (drop-of-length-le s (leb-true (length s) i l))))
+      | is-false l ↦ leb-false (length s) i l
+    ]
 
 pub see-name : (bs : List ℕ) → Identified bs
 unfolding identifier spelled
@@ -69,14 +81,14 @@ module _ (s : List ℕ) (at end : ℕ) where
       ]
 
   pub name-some : end ≡ at + lengthOf (identifier (drop at s)) → (end ≡ at → ⊥)
-      → (at < end) × (lexemeOf s at T.Name (end - (at + 1)) ≡ asName (identifier (drop at s)))
-  unfolding lexemeOf
+      → Whole s at T.Name end (asName (identifier (drop at s)))
+  unfolding lexemeOf tokenOf
   name-some e z =
       elim (see-name (drop at s)) [
         | no-name h ↦ absurd (z (let d : end ≡ at + 0 = rw h at e in omega arith))
         | a-name h p q ↦
             let d : end ≡ at + length (spelled (drop at s)) = rw h at e in
-            (omega arith, rw h (ap {B = Meant} (λ n. token (name (spelled (drop at s))) n) (let w : end - (at + 1) ≡ length (spelled (drop at s)) - 1 = omega arith in w)))
+            (omega arith, rw h (ap {B = Meant} (λ n. token (name (spelled (drop at s))) n) (let w : end - (at + 1) ≡ length (spelled (drop at s)) - 1 = omega arith in w)), (q, d))
       ]
 
   pub call-none : end ≡ at + 1 + lengthOf (identifier (drop (at + 1) s)) → end ≡ at + 1 → wrong ≡ asCall (identifier (drop (at + 1) s))
@@ -87,14 +99,14 @@ module _ (s : List ℕ) (at end : ℕ) where
       ]
 
   pub call-some : end ≡ at + 1 + lengthOf (identifier (drop (at + 1) s)) → (end ≡ at + 1 → ⊥)
-      → (at < end) × (lexemeOf s at T.Call (end - (at + 1)) ≡ asCall (identifier (drop (at + 1) s)))
-  unfolding lexemeOf
+      → Whole s at T.Call end (asCall (identifier (drop (at + 1) s)))
+  unfolding lexemeOf tokenOf
   call-some e z =
       elim (see-name (drop (at + 1) s)) [
         | no-name h ↦ absurd (z (let d : end ≡ at + 1 + 0 = rw h at e in omega arith))
         | a-name h p q ↦
             let d : end ≡ at + 1 + length (spelled (drop (at + 1) s)) = rw h at e in
-            (omega arith, rw h (ap {B = Meant} (λ n. token (call (spelled (drop (at + 1) s))) n) (let w : end - (at + 1) ≡ length (spelled (drop (at + 1) s)) = omega arith in w)))
+            (omega arith, rw h (ap {B = Meant} (λ n. token (call (spelled (drop (at + 1) s))) n) (let w : end - (at + 1) ≡ length (spelled (drop (at + 1) s)) = omega arith in w)), (spelled-inside s (at + 1) p, q, d))
       ]
 
 -- where an identifier ends
@@ -137,16 +149,17 @@ string-long s at end n e h = go (quoted (getD s at 0) false (drop (at + 1) s)) e
     go (closed x m) e = (let d : n ≡ 0 + length x = cc in rw (lt-leb (length x) 255 (omega arith)))
 
 pub string-some : (s : List ℕ) (at end n : ℕ) → Q.Closed end n ≡ closedAt (at + 1) 0 (quoted (getD s at 0) false (drop (at + 1) s)) → n ≤ 255
-    → (at < end) × (lexemeOf s at T.String (end - (at + 1)) ≡ asString (quoted (getD s at 0) false (drop (at + 1) s)))
-unfolding lexemeOf
+    → (at < end) × (lexemeOf s at T.String (end - (at + 1)) ≡ asString (quoted (getD s at 0) false (drop (at + 1) s))) × Proper s at T.String end
+unfolding lexemeOf tokenOf
 string-some s at end n e h = go (quoted (getD s at 0) false (drop (at + 1) s)) e
   where
-    go : (x : Chars) → Q.Closed end n ≡ closedAt (at + 1) 0 x → (at < end) × (token (string (charactersOf x)) (end - (at + 1)) ≡ asString x)
+    go : (x : Chars) → Q.Closed end n ≡ closedAt (at + 1) 0 x → (at < end) × (token (string (charactersOf x)) (end - (at + 1)) ≡ asString x) × (x ≡ closed (charactersOf x) (end - (at + 1)))
     go unclosed e = absurd (let z : _≡_ {A = ℕ} 0 1 = cc in omega arith)
     go (closed x m) e =
         let d : n ≡ 0 + length x = cc in
         let w : end ≡ at + 1 + m = cc in
-        (omega arith, rw (le-leb (length x) 255 (omega arith)) (ap {B = Meant} (λ k. token (string x) k) (let v : end - (at + 1) ≡ m = omega arith in v)))
+        let v : end - (at + 1) ≡ m = omega arith in
+        (omega arith, rw (le-leb (length x) 255 (omega arith)) (ap {B = Meant} (λ k. token (string x) k) v), ap {B = Chars} (λ k. closed x k) (sym v))
 
 -- NUMBERS
 
@@ -168,8 +181,8 @@ module _ (s : List ℕ) (at end v : ℕ) (h : Sums s at end v) where
       ]
 
   pub number-some : (b : Bool) → b ≡ real (drop end s) → b ≡ false → v ≤ 4294967295 → at < length s → isDigit (getD s at 0) ≡ true
-      → (at < end) × (lexemeOf s at (T.Macrodigit v) (end - (at + 1)) ≡ numberAt s at)
-  unfolding number lexemeOf
+      → Whole s at (T.Macrodigit v) end (numberAt s at)
+  unfolding number lexemeOf tokenOf
   number-some b e t l i d =
       let f : length ds ≡ suc (length (front isDigit (drop (at + 1) s))) = ap (λ (x : List ℕ). length x) (run-yes isDigit s at i d) in
       let g : end ≡ at + length ds = h .ends in
@@ -178,7 +191,7 @@ module _ (s : List ℕ) (at end v : ℕ) (h : Sums s at end v) where
         | is-false k ↦
             let z : v ≡ value 0 ds = h .sums ∙ cap-under _ (ltb-false _ _ k) in
             let w : end - (at + 1) ≡ length ds - 1 = omega arith in
-            (omega arith, rw (← h .ends, ← e, t, k, ← z, w))
+            (omega arith, rw (← h .ends, ← e, t, k, ← z, w), tt)
       ]
 
 -- COMMENTS
@@ -206,21 +219,21 @@ module _ (s : List ℕ) (at : ℕ) where
         go (some n) h = absurd (let z : _≡_ {A = ℕ} 0 1 = cc in omega arith)
 
     pub slashed-some : getD s (at + 1) 0 ≡ 42 → (end : ℕ) → F.At end ≡ pastAt (at + 2) (commented false (drop (at + 2) s))
-        → (at < end) × (lexemeOf s at T.Gap (end - (at + 1)) ≡ slashed (drop (at + 1) s))
-    unfolding lexemeOf
+        → Whole s at T.Gap end (slashed (drop (at + 1) s))
+    unfolding lexemeOf tokenOf
     slashed-some e end h = rw (slashed-at e) (go (commented false (drop (at + 2) s)) h)
       where
-        go : (o : Option ℕ) → F.At end ≡ pastAt (at + 2) o → (at < end) × (gap (end - (at + 1)) ≡ asGap o)
+        go : (o : Option ℕ) → F.At end ≡ pastAt (at + 2) o → (at < end) × (gap (end - (at + 1)) ≡ asGap o) × Unit {0}
         go none h = absurd (let z : _≡_ {A = ℕ} 0 1 = cc in omega arith)
-        go (some n) h = (let d : end ≡ at + 2 + n = cc in (omega arith, ap gap (let z : end - (at + 1) ≡ suc n = omega arith in z)))
+        go (some n) h = (let d : end ≡ at + 2 + n = cc in (omega arith, ap gap (let z : end - (at + 1) ≡ suc n = omega arith in z), tt))
 
   pub starred-no : (b : Bool) → b ≡ columnAt s at → b ≡ false → wrong ≡ starredAt s at
   starred-no b e t = rw (← e, t)
 
   pub starred-yes : (b : Bool) → b ≡ columnAt s at → b ≡ true → (end : ℕ) → end ≡ at + 1 + length (front inLine (drop (at + 1) s))
-      → (at < end) × (lexemeOf s at T.Gap (end - (at + 1)) ≡ starredAt s at)
-  unfolding lexemeOf
-  starred-yes b e t end d = (omega arith, rw (← e, t) (ap gap (let z : end - (at + 1) ≡ length (front inLine (drop (at + 1) s)) = omega arith in z)))
+      → Whole s at T.Gap end (starredAt s at)
+  unfolding lexemeOf tokenOf
+  starred-yes b e t end d = (omega arith, rw (← e, t) (ap gap (let z : end - (at + 1) ≡ length (front inLine (drop (at + 1) s)) = omega arith in z)), tt)
 
 -- the first column
 pub column-later : (s : List ℕ) (i k : ℕ) → (i ≡ 0 → ⊥) → k ≡ classOf (getD s (i - 1) 0) → eqb k 12 ≡ columnAt s i
@@ -344,16 +357,17 @@ module _ (s : List ℕ) (at end : ℕ) (e : end ≡ at + 2 + length (front inNam
   dot-none z = dotted-none (getD s at 0) figures run (omega arith)
 
   module _ (n : end ≡ at + 2 → ⊥) (stop : ℕ) (d : stop ≡ at + 2 + length figures) where
-    pub dot-number : stop ≡ end → (r : ℕ) → Trimmed s (at + 2) end r → (at < end) × (lexemeOf s at (T.Variable r (end - r)) (end - (at + 1)) ≡ dottedAt s at)
-    unfolding lexemeOf part
-    dot-number q r t =
+    pub dot-number : stop ≡ end → (r : ℕ) → Trimmed s (at + 2) end r → at + 2 ≤ length s → Whole s at (T.Variable r (end - r)) end (dottedAt s at)
+    unfolding lexemeOf tokenOf part
+    dot-number q r t l =
+        let inside : end ≤ length s = omega (arith, e, run-most inName s (at + 2) l) in
         let long : length figures ≡ length run = omega arith in
         let size : end - (at + 2) ≡ length figures = omega arith in
         let whole : take (end - (at + 2)) (drop (at + 2) s) ≡ figures = ap (λ (k : ℕ). take k (drop (at + 2) s)) size ∙ take-front isDigit (drop (at + 2) s) in
         let index : map spelling (take (end - r) (drop r s)) ≡ trim figures =
         ap (map spelling) (t .same ∙ ap trim whole) ∙ trim-spelled figures (digits-spelled (drop (at + 2) s)) in
         let m : end - (at + 1) ≡ 1 + length run = omega arith in
-        (omega arith, rw (index, m) (dotted-number (getD s at 0) figures run (omega arith) long))
+        (omega arith, rw (index, m) (dotted-number (getD s at 0) figures run (omega arith) long), (omega (arith, t .least), omega (arith, t .most), omega (arith, t .most)))
 
     module _ (q : stop ≡ end → ⊥) where
       apart-ends : length figures ≡ length run → ⊥
@@ -366,17 +380,17 @@ module _ (s : List ℕ) (at end : ℕ) (e : end ≡ at + 2 + length (front inNam
       begun : run ≡ getD s (at + 2) 0 ∷ front inName (drop (at + 2 + 1) s)
       begun = (let (i, h) = run-first inName s (at + 2) (omega arith) in run-yes inName s (at + 2) i h)
 
-      pub dot-letter : end ≤ at + 2 + 15 → isLetter (getD s (at + 2) 0) ≡ true → (at < end) × (lexemeOf s at (T.Variable (at + 2) (end - (at + 2))) (end - (at + 1)) ≡ dottedAt s at)
-      unfolding lexemeOf part
-      dot-letter l h =
+      pub dot-letter : end ≤ at + 2 + 15 → isLetter (getD s (at + 2) 0) ≡ true → at + 2 ≤ length s → Whole s at (T.Variable (at + 2) (end - (at + 2))) end (dottedAt s at)
+      unfolding lexemeOf tokenOf part
+      dot-letter l h k =
+          let inside : end ≤ length s = omega (arith, e, run-most inName s (at + 2) k) in
           let size : end - (at + 2) ≡ length run = omega arith in
           let index : map spelling (take (end - (at + 2)) (drop (at + 2) s)) ≡ map spell run =
           ap (λ (k : ℕ). map spelling (take k (drop (at + 2) s))) size ∙ ap (map spelling) (take-front inName (drop (at + 2) s)) ∙ names-spelled (drop (at + 2) s) in
-          let m : end - (at + 1) ≡ 1 + length run = omega arith in (
-            omega arith,
-            rw (index, m, begun)
-                (dotted-letter (getD s at 0) figures (getD s (at + 2) 0) (front inName (drop (at + 2 + 1) s)) h (omega (arith, ap (λ (x : List ℕ). length x) begun)) (λ z. apart-ends (z ∙ sym (ap (λ (x : List ℕ). length x) begun)))),
-          )
+          let m : end - (at + 1) ≡ 1 + length run = omega arith in
+          let long = ap (λ (x : List ℕ). length x) begun in
+          let told = dotted-letter (getD s at 0) figures (getD s (at + 2) 0) (front inName (drop (at + 2 + 1) s)) h (omega (arith, long)) (λ z. apart-ends (z ∙ sym long)) in
+          (omega arith, rw (index, m, begun) told, (omega arith, omega arith, omega arith))
 
       pub dot-other : isLetter (getD s (at + 2) 0) ≡ false → wrong ≡ dottedAt s at
       dot-other h =
@@ -414,11 +428,11 @@ module _ (s : List ℕ) (at : ℕ) where
         indexed-touching b e t = rw (behind, ne-eqb _ 46 n, h, ← e, t)
 
         pub indexed-yes : (b : Bool) → b ≡ apart (drop (at + 2) s) → b ≡ true
-            → (at < at + 2) × (lexemeOf s at (T.Variable (at + 1) 1) (at + 2 - (at + 1)) ≡ indexed letter (drop (at + 1) s))
-        unfolding indexed lexemeOf part
+            → Whole s at (T.Variable (at + 1) 1) (at + 2) (indexed letter (drop (at + 1) s))
+        unfolding indexed lexemeOf tokenOf part
         indexed-yes b e t =
             let m : at + 2 - (at + 1) ≡ 1 = omega arith in
-            (omega arith, rw (behind, ne-eqb _ 46 n, h, ← e, t, m) (ap {B = Meant} (λ x. token (variable letter (x ∷ [])) 1) (name-spelled (getD s (at + 1) 0) (either (getD s (at + 1) 0) h))))
+            (omega arith, rw (behind, ne-eqb _ 46 n, h, ← e, t, m) (ap {B = Meant} (λ x. token (variable letter (x ∷ [])) 1) (name-spelled (getD s (at + 1) 0) (either (getD s (at + 1) 0) h))), (omega arith, omega arith, omega arith))
           where
             either : (c : ℕ) → (isCapital c || isDigit c) ≡ true → inName c ≡ true
             either c h = elim (see (isCapital c)) [ is-true k ↦ wide 3 c (omega arith) (omega arith) k | is-false k ↦ wide 6 c (omega arith) (omega arith) (rw k at h) ]
@@ -511,8 +525,8 @@ module _ (s : List ℕ) (at k : ℕ) (e : k ≡ classOf (getD s at 0)) where
       rw (← by-class, ne-eqb k 1 a, ne-eqb k 2 b, ne-eqb k 3 c, ne-eqb k 5 d, ne-eqb k 6 f, ne-eqb k 8 g, ne-eqb k 9 h, ne-eqb k 10 i, ne-eqb k 11 j, ne-eqb k 12 l)
 
 pub tells-as : {s : List ℕ} {at : ℕ} {r : Lexeme} {x y : Meant} → x ≡ y → Tells s at r x → Tells s at r y
-tells-as e t = record { is = t .is ∙ e; ahead = t .ahead }
+tells-as e t = record { is = t .is ∙ e; ahead = t .ahead; proper = t .proper }
 
 -- a token of one byte
-pub one-byte : {s : List ℕ} {at : ℕ} {r : Lexeme} {x y : Meant} (t : Token) → lexemeOf s at t 0 ≡ x → x ≡ y → (r .token ≡ t) × (r .end ≡ at + 1) → Tells s at r y
-one-byte {s} {at} t h e m = tells t (at + 1) m (omega arith, (let z : at + 1 - (at + 1) ≡ 0 = omega arith in rw z (h ∙ e)))
+pub one-byte : {s : List ℕ} {at : ℕ} {r : Lexeme} {x y : Meant} (t : Token) → Proper s at t (at + 1) → lexemeOf s at t 0 ≡ x → x ≡ y → (r .token ≡ t) × (r .end ≡ at + 1) → Tells s at r y
+one-byte {s} {at} t o h e m = tells t (at + 1) m (omega arith, (let z : at + 1 - (at + 1) ≡ 0 = omega arith in rw z (h ∙ e)), o)

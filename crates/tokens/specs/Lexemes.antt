@@ -7,7 +7,7 @@ use Prim.Native.Nat.{ℕ, zero, suc, _+_, _-_, _≤_, _<_}
 use lib.ListN.{length, getD, take, drop}
 use lib.Dec.{ltb}
 use Rattle.text.specs.Classes.{isDigit, inName, endsLine, inLine, front}
-use Rattle.text.specs.Tokens.{name, call, macrodigit, string, variable, sign, Lexeme as Meant, token, gap, wrong, spelled, value, number, trim, dotted, Quoted as Chars, unclosed, closed, quoted, lex}
+use Rattle.text.specs.Tokens.{Token as Meaning, malformed, name, call, macrodigit, string, variable, sign, Lexeme as Meant, token, gap, wrong, spelled, value, number, trim, dotted, Quoted as Chars, unclosed, closed, quoted, lex}
 use Rattle.classes.specs.Table.{part}
 use Rattle.tokens.specs.declared.Token.{Token}
 use Rattle.tokens.specs.declared.Token.the-variants as T
@@ -70,18 +70,41 @@ abbrev pub charactersOf : Chars → List ℕ
 charactersOf unclosed = []
 charactersOf (closed x n) = x
 
--- the definition's lexeme that a token of the code, with n bytes behind its first, stands for
+-- the definition's token that a token of the code at `at` stands for
+unfoldable pub tokenOf : List ℕ → ℕ → Token → Meaning
+tokenOf s at T.Gap = malformed
+tokenOf s at T.Malformed = malformed
+tokenOf s at T.Name = name (spelled (drop at s))
+tokenOf s at T.Call = call (spelled (drop (at + 1) s))
+tokenOf s at (T.Macrodigit v) = macrodigit v
+tokenOf s at T.String = string (charactersOf (quoted (getD s at 0) false (drop (at + 1) s)))
+tokenOf s at (T.Variable start size) = variable (getD s at 0) (part s start size)
+tokenOf s at T.Sign = sign (getD s at 0)
+
+-- the definition's lexeme, with n bytes behind its first
 unfoldable pub lexemeOf : List ℕ → ℕ → Token → ℕ → Meant
 lexemeOf s at T.Gap n = gap n
 lexemeOf s at T.Malformed n = wrong
-lexemeOf s at T.Name n = token (name (spelled (drop at s))) n
-lexemeOf s at T.Call n = token (call (spelled (drop (at + 1) s))) n
-lexemeOf s at (T.Macrodigit v) n = token (macrodigit v) n
-lexemeOf s at T.String n = token (string (charactersOf (quoted (getD s at 0) false (drop (at + 1) s)))) n
-lexemeOf s at (T.Variable start size) n = token (variable (getD s at 0) (part s start size)) n
-lexemeOf s at T.Sign n = token (sign (getD s at 0)) n
+lexemeOf s at T.Name n = token (tokenOf s at T.Name) n
+lexemeOf s at T.Call n = token (tokenOf s at T.Call) n
+lexemeOf s at (T.Macrodigit v) n = token (tokenOf s at (T.Macrodigit v)) n
+lexemeOf s at T.String n = token (tokenOf s at T.String) n
+lexemeOf s at (T.Variable start size) n = token (tokenOf s at (T.Variable start size)) n
+lexemeOf s at T.Sign n = token (tokenOf s at T.Sign) n
+
+-- what is known of a token's bytes: an identifier is short and ends with the token, a string is closed, an index lies inside
+abbrev pub Proper : List ℕ → ℕ → Token → ℕ → Type 0
+Proper s at T.Gap end = Unit {0}
+Proper s at T.Malformed end = Unit {0}
+Proper s at T.Name end = (length (spelled (drop at s)) ≤ 15) × (end ≡ at + length (spelled (drop at s)))
+Proper s at T.Call end = (at + 1 < length s) × (length (spelled (drop (at + 1) s)) ≤ 15) × (end ≡ at + 1 + length (spelled (drop (at + 1) s)))
+Proper s at (T.Macrodigit v) end = Unit {0}
+Proper s at T.String end = quoted (getD s at 0) false (drop (at + 1) s) ≡ closed (charactersOf (quoted (getD s at 0) false (drop (at + 1) s))) (end - (at + 1))
+Proper s at (T.Variable start size) end = (at < start) × (0 < size) × (start + size ≤ length s)
+Proper s at T.Sign end = Unit {0}
 
 -- a lexeme of the code stands for x
 pub record Tells (s : List ℕ) (at : ℕ) (r : Lexeme) (x : Meant) : Type 0 where
   pub is : lexemeOf s at (r .token) (r .end - (at + 1)) ≡ x
   pub ahead : at < r .end
+  pub proper : Proper s at (r .token) (r .end)

@@ -49,7 +49,7 @@ returns-2 c =
     let if1 = c .before .before .before .before .if1 in
     let run-end2 = c .before .before .before .run-end2 in
     tells _ _ (c .spanning2 .ensures)
-    (dot-number _ _ _ (run-end .ensures) (if1 .left) _ (run-end2 .ensures) (c .before .before .if2 .taken) _ (c .before .past-zeros .ensures))
+    (dot-number _ _ _ (run-end .ensures) (if1 .left) _ (run-end2 .ensures) (c .before .before .if2 .taken) _ (c .before .past-zeros .ensures) (omega (arith, c .before .before .before .before .before .before .before .before .pre .2)))
 
 add-if3 : tie.Need-add-if3
 add-if3 c = search needs
@@ -93,7 +93,7 @@ returns-4 c =
     let class-of = c .before .before .before .class-of in
     tells _ _ (c .spanning3 .ensures)
     (dot-letter _ _ _ (run-end .ensures) (if1 .left) _ (run-end2 .ensures) (if2 .left) (if3 .left)
-    (by-span 3 5 _ _ (class-of .ensures) ∙ sym (c .before .before .is-letter .ensures) ∙ c .before .if4 .taken))
+    (by-span 3 5 _ _ (class-of .ensures) ∙ sym (c .before .before .is-letter .ensures) ∙ c .before .if4 .taken) (omega (arith, c .before .before .before .before .before .before .before .before .before .before .before .before .pre .2)))
 
 returns-5 : tie.Need-returns-5
 returns-5 c =

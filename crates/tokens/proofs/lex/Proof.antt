@@ -1,5 +1,5 @@
 use mathlib.Core.Path.{refl}
-use Rattle.tokens.specs.Lexemes.{lexemeOf}
+use Rattle.tokens.specs.Lexemes.{tokenOf, lexemeOf}
 use Rattle.tokens.specs.declared.Token.the-variants as T
 use Rattle.classes.proofs.Runs.{of-eq}
 use Rattle.tokens.proofs.Lexing.{tells-wrong, tells-as, one-byte, lex-blank, lex-slash, lex-name, lex-variable, lex-number, lex-string, lex-sign, lex-call, lex-star, lex-end, lex-other}
@@ -59,10 +59,10 @@ spanning-requires-4 : tie.Need-spanning-requires-4
 spanning-requires-4 c κs = search needs
 
 returns : tie.Need-returns
-unfolding lexemeOf
+unfolding lexemeOf tokenOf
 returns c =
     let start = c .before .before .before .before .before in
-    one-byte T.Gap refl (lex-blank (start .args .s .now) (start .args .at) _ (c .before .before .class-of .ensures) (c .before .match .keys1))
+    one-byte T.Gap tt refl (lex-blank (start .args .s .now) (start .args .at) _ (c .before .before .class-of .ensures) (c .before .match .keys1))
     (c .spanning .ensures)
 
 returns-2 : tie.Need-returns-2
@@ -93,10 +93,10 @@ returns-6 c =
     tells-as (lex-string (start .args .s .now) (start .args .at) _ (c .before .before .class-of .ensures) (c .before .match .keys6)) (c .string .ensures)
 
 returns-7 : tie.Need-returns-7
-unfolding lexemeOf
+unfolding lexemeOf tokenOf
 returns-7 c =
     let start = c .before .before .before .before .before in
-    one-byte T.Sign refl (lex-sign (start .args .s .now) (start .args .at) _ (c .before .before .class-of .ensures) (c .before .match .keys7))
+    one-byte T.Sign tt refl (lex-sign (start .args .s .now) (start .args .at) _ (c .before .before .class-of .ensures) (c .before .match .keys7))
     (c .spanning2 .ensures)
 
 returns-8 : tie.Need-returns-8
@@ -110,10 +110,10 @@ returns-9 c =
     tells-as (lex-star (start .args .s .now) (start .args .at) _ (c .before .before .class-of .ensures) (c .before .match .keys9)) (c .starred .ensures)
 
 returns-10 : tie.Need-returns-10
-unfolding lexemeOf
+unfolding lexemeOf tokenOf
 returns-10 c =
     let start = c .before .before .before .before .before in
-    one-byte T.Gap refl (lex-end (start .args .s .now) (start .args .at) _ (c .before .before .class-of .ensures) (c .before .match .keys10))
+    one-byte T.Gap tt refl (lex-end (start .args .s .now) (start .args .at) _ (c .before .before .class-of .ensures) (c .before .match .keys10))
     (c .spanning3 .ensures)
 
 returns-11 : tie.Need-returns-11
