@@ -1,0 +1,4 @@
+pub mod Writing
+pub mod Putting
+pub mod Characters
+pub mod Making
