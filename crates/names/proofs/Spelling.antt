@@ -17,7 +17,8 @@ use Rattle.text.specs.Classes.{classOf, of, isCapital, inName, front, spell}
 use Rattle.text.specs.Tokens.{identifier}
 use Rattle.classes.specs.Table.{spelling}
 use Rattle.classes.proofs.Runs.{run-yes, run-no, run-past}
-use Rattle.names.specs.Names.{tailOf, keyOf, keyAt}
+use Rattle.names.specs.Names.{keyAt}
+use Rattle.text.specs.Tokens.{tailOf, spelled}
 use Rattle.names.specs.Index.{mixed, hashFrom, bucket}
 
 -- a byte of a name is spelt by a byte that is not 0
@@ -94,15 +95,15 @@ module _ (s : List ℕ) (i j : ℕ) where
   alike-out {y} l (more m q) = rw (tail-past s i l, q, ne-eqb y 0 (λ z. omega arith))
 
 pub key-is : (s : List ℕ) (a : ℕ) → a < length s → keyAt s a ≡ getD s a 0 ∷ tailOf (drop (a + 1) s)
-unfolding keyAt keyOf
+unfolding keyAt spelled
 key-is s a l = rw (drop-cons s a 0 l, add-one)
 
 -- an identifier is the name that begins where it is read
 pub name-read : (s x : List ℕ) (i : ℕ) → identifier (drop i s) ≡ some x → (keyAt s i ≡ x) × (length x ≤ 15)
-unfolding identifier keyAt keyOf tailOf
+unfolding identifier keyAt spelled tailOf
 name-read s x i = go (drop i s)
   where
-    go : (bs : List ℕ) → identifier bs ≡ some x → (keyOf bs ≡ x) × (length x ≤ 15)
+    go : (bs : List ℕ) → identifier bs ≡ some x → (spelled bs ≡ x) × (length x ≤ 15)
     go [] h = never (cc)
     go (b ∷ bs) h =
         elim (see (isCapital b && leb (length (front inName bs)) 14)) [

@@ -8,7 +8,8 @@ use lib.ListN.{length, getD, drop, take, set, replicate, length-set, length-appe
 use lib.Seq.{sets, sets-eq, length-sets, take-suc, drop-length, drop-append-add, take-append-seam, length-take-le, getD-take}
 use Rattle.text.specs.Numbering.{Key, nameKey}
 use Rattle.text.specs.Answers.{recordOf, listOf, filled}
-use Rattle.names.specs.Names.{tailOf, keyAt, nameAt, keys, named}
+use Rattle.names.specs.Names.{keyAt, nameAt, keys, named}
+use Rattle.text.specs.Tokens.{tailOf}
 use Rattle.names.specs.Index.{Places}
 use Rattle.names.proofs.Spelling.{Tail, over, more, tail-past, key-is}
 use Rattle.names.proofs.Numbers.{keys-more}

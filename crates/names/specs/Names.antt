@@ -1,21 +1,13 @@
 -- Names by the places where they begin in a text.
-use mathlib.Core.List.{List, [], _∷_, map}
+use mathlib.Core.List.{List, [], _∷_}
 use Prim.Native.Nat.{ℕ}
 use lib.ListN.{getD, take, drop}
-use Rattle.text.specs.Classes.{inName, front, spell}
+use Rattle.text.specs.Tokens.{spelled}
 use Rattle.text.specs.Numbering.{Key, nameKey, numberOf}
-
--- a name's bytes behind its first, in their one spelling
-unfoldable pub tailOf : List ℕ → List ℕ
-tailOf bs = map spell (front inName bs)
-
-unfoldable pub keyOf : List ℕ → List ℕ
-keyOf [] = []
-keyOf (b ∷ bs) = b ∷ tailOf bs
 
 -- the name that begins at a place, in its one spelling
 unfoldable pub keyAt : List ℕ → ℕ → List ℕ
-keyAt s i = keyOf (drop i s)
+keyAt s i = spelled (drop i s)
 
 -- the name of number k
 abbrev pub nameAt : List ℕ → List ℕ → ℕ → List ℕ

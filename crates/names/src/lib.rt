@@ -7,7 +7,8 @@ ghost use Rattle.meaning.specs.Elements.{same};
 ghost use Rattle.text.specs.Numbering.{nameKey};
 ghost use Rattle.text.specs.Answers.{listOf, filled};
 ghost use Rattle.classes.specs.Table.{Classes, spelling};
-ghost use Rattle.names.specs.Names.{tailOf, keyAt, named, numberAt};
+ghost use Rattle.text.specs.Tokens.{tailOf};
+ghost use Rattle.names.specs.Names.{keyAt, named, numberAt};
 ghost use Rattle.names.specs.Index.{mixed, bucket, Places, Index, Added, Numbered};
 
 // The kind of a record of the list.

@@ -12,7 +12,7 @@ use Rattle.meaning.specs.Elements.{Element, kind, same}
 use Rattle.meaning.specs.Goodness.{span}
 use Rattle.meaning.proofs.Truth.{is-true, is-false, see, or-false, and-left, and-right, same-eq, same-refl}
 use Rattle.text.specs.Classes.{classOf, of, isCapital, isLetter, isDigit, inName, inLine, endsLine, front, spell}
-use Rattle.text.specs.Tokens.{Token, malformed, name, call, macrodigit, string, variable, sign, Lexeme, token, gap, wrong, spelled, identifier, asName, asCall, real, value, number, trim, dotted, apart, indexed, Quoted, unclosed, closed, quoted, asString, commented, asGap, slashed, lexOf, lex, Placed, placed, follow, tokens}
+use Rattle.text.specs.Tokens.{Token, malformed, name, call, macrodigit, string, variable, sign, Lexeme, token, gap, wrong, tailOf, spelled, identifier, asName, asCall, real, value, number, trim, dotted, apart, indexed, Quoted, unclosed, closed, quoted, asString, commented, asGap, slashed, lexOf, lex, Placed, placed, follow, tokens}
 use Rattle.text.specs.Numbering.{Key, nameKey, numberOf, has, adding}
 use Rattle.text.specs.Reading.{element}
 use Rattle.text.specs.Agreeing.{naming, Counted, over, other, known, first, Distinct, alone, besides}
@@ -83,7 +83,7 @@ unfolding of classOf span
 capital-solid b h e = absurd (let z : false ≡ true = rw e at h in (let w : _≡_ {A = ℕ} 0 1 = cc in omega arith))
 
 identifier-spelt : (bs : List ℕ) → SpeltO (identifier bs)
-unfolding identifier spelled
+unfolding identifier spelled tailOf
 identifier-spelt [] = tt
 identifier-spelt (b ∷ bs) =
     elim (see (isCapital b && leb (length (front inName bs)) 14)) [

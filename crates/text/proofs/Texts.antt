@@ -8,7 +8,7 @@ use lib.Dec.{T, eqb, ltb}
 use Rattle.meaning.specs.Elements.{body, join, same, among, isVariable}
 use Rattle.meaning.specs.Goodness.{span, stands, endsSide, paired, underLimit, onRight, tests, firstFailing, fault, partAfter, opensAfter, sided, countAfter, variablesAfter, stateAfter}
 use Rattle.text.specs.Classes.{classOf, of, front}
-use Rattle.text.specs.Tokens.{spelled, identifier, real, value, number, trim, dotted, apart, indexed, longer, before, quoted, further, commented, slashed, lexOf, lex, follow, tokens}
+use Rattle.text.specs.Tokens.{tailOf, spelled, identifier, real, value, number, trim, dotted, apart, indexed, longer, before, quoted, further, commented, slashed, lexOf, lex, follow, tokens}
 use Rattle.text.specs.Numbering.{Key, nameKey, numberOf, has, adding}
 use Rattle.text.specs.Reading.{digits, element, kept, phaseAfter, putAll, closing, typeOf, signed, numberIn, namesWith, variablesWith, putSome, within, heading, entering, enter, Said, says, amiss, finish, reads, said}
 
@@ -149,7 +149,7 @@ unfolding texts every right
     body join same among isVariable
     span stands endsSide paired underLimit onRight tests firstFailing fault partAfter opensAfter sided countAfter variablesAfter stateAfter
     classOf of front
-    spelled identifier real value number trim dotted apart indexed longer before quoted further commented slashed lexOf lex follow tokens
+    spelled tailOf identifier real value number trim dotted apart indexed longer before quoted further commented slashed lexOf lex follow tokens
     nameKey numberOf has adding
     digits element kept phaseAfter putAll closing typeOf signed putSome numberIn namesWith variablesWith within heading entering enter finish reads said
 worked = tt

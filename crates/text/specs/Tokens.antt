@@ -29,10 +29,14 @@ pub data Lexeme : Type 0 where
 abbrev pub wrong : Lexeme
 wrong = token malformed 0
 
--- a name at the front, in its one spelling: its first byte, then "later letters small, dashes"
+-- the bytes of a name behind its first: "later letters small, dashes"
+unfoldable pub tailOf : List ℕ → List ℕ
+tailOf bs = map spell (front inName bs)
+
+-- a name at the front, in its one spelling
 unfoldable pub spelled : List ℕ → List ℕ
 spelled [] = []
-spelled (b ∷ bs) = b ∷ map spell (front inName bs)
+spelled (b ∷ bs) = b ∷ tailOf bs
 
 -- "An identifier ... has a capital first and at most 15 characters"
 unfoldable pub identifier : List ℕ → Option (List ℕ)

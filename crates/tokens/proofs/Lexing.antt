@@ -7,13 +7,13 @@ use Prim.Native.Nat.{ℕ, zero, suc, _+_, _-_, _≤_, _<_}
 use native.Mathlib.Omega.{arith}
 use native.Mathlib.Numerals.{add-one}
 use lib.ListN.{length, getD, take, drop, drop-of-length-le}
-use lib.Seq.{drop-cons, drop-drop}
+use lib.Seq.{drop-cons, drop-drop, getD-drop}
 use lib.Dec.{eqb, leb, ltb}
 use borrow.Author.Tests.{eq-eqb, ne-eqb, le-leb, lt-leb, leb-true, leb-false, ltb-true, ltb-false}
 use Rattle.meaning.specs.Goodness.{span}
-use Rattle.meaning.proofs.Truth.{is-true, is-false, see, or-right, and-right, span-le}
+use Rattle.meaning.proofs.Truth.{is-true, is-false, see, or-right, and-left, and-right, span-le}
 use Rattle.text.specs.Classes.{classOf, of, isCapital, isLetter, isDigit, inName, inLine, front, spell}
-use Rattle.text.specs.Tokens.{name, call, string, variable, sign, Lexeme as Meant, token, gap, wrong, spelled, identifier, asName, asCall, real, value, number, trim, dotted, apart, indexed, Quoted as Chars, unclosed, closed, quoted, asString, commented, asGap, slashed, lexOf, lex}
+use Rattle.text.specs.Tokens.{name, call, string, variable, sign, Lexeme as Meant, token, gap, wrong, tailOf, spelled, identifier, asName, asCall, real, value, number, trim, dotted, apart, indexed, Quoted as Chars, unclosed, closed, quoted, asString, commented, asGap, slashed, lexOf, lex}
 use Rattle.classes.specs.Table.{spelling, part}
 use Rattle.classes.proofs.Runs.{of-yes, of-low, of-high, of-eq, of-ne, run-yes, run-no, run-past, run-most}
 use Rattle.tokens.specs.Lexemes.{lengthOf, closedAt, pastAt, Sums, columnAt, numberAt, starredAt, Trimmed, dottedAt, lexAt, charactersOf, tokenOf, lexemeOf, Proper, Tells}
@@ -47,14 +47,14 @@ by-span lo hi k b e = rw (← e)
 
 pub data Identified (bs : List ℕ) : Type 0 where
   no-name : identifier bs ≡ none → Identified bs
-  a-name : identifier bs ≡ some (spelled bs) → 0 < length (spelled bs) → length (spelled bs) ≤ 15 → Identified bs
+  a-name : identifier bs ≡ some (spelled bs) → 0 < length (spelled bs) → length (spelled bs) ≤ 15 → isCapital (getD bs 0 0) ≡ true → Identified bs
 
 length-spell : (xs : List ℕ) → length (map spell xs) ≡ length xs
 length-spell [] = refl
 length-spell (x ∷ xs) = ap suc (length-spell xs)
 
 spelled-inside : (s : List ℕ) (i : ℕ) → 0 < length (spelled (drop i s)) → i < length s
-unfolding spelled
+unfolding spelled tailOf
 spelled-inside s i h =
     elim (see (leb (length s) i)) [
       | is-true l ↦ absurd (omega (arith, h, ap (λ (x : List ℕ). length (spelled x)) (drop-of-length-le s (leb-true (length s) i l))))
@@ -62,13 +62,13 @@ spelled-inside s i h =
     ]
 
 pub see-name : (bs : List ℕ) → Identified bs
-unfolding identifier spelled
+unfolding identifier spelled tailOf
 see-name [] = no-name refl
 see-name (b ∷ bs) =
     elim (see (isCapital b && leb (length (front inName bs)) 14)) [
       | is-true h ↦
           let short : length (front inName bs) ≤ 14 = leb-true _ 14 (and-right (isCapital b) _ h) in
-          a-name (rw h) (omega arith) (omega (arith, length-spell (front inName bs)))
+          a-name (rw h) (omega arith) (omega (arith, length-spell (front inName bs))) (and-left (isCapital b) _ h)
       | is-false h ↦ no-name (rw h)
     ]
 
@@ -77,7 +77,7 @@ module _ (s : List ℕ) (at end : ℕ) where
   name-none e z =
       elim (see-name (drop at s)) [
         | no-name h ↦ rw h
-        | a-name h p q ↦ absurd (let d : end ≡ at + length (spelled (drop at s)) = rw h at e in omega arith)
+        | a-name h p q k ↦ absurd (let d : end ≡ at + length (spelled (drop at s)) = rw h at e in omega arith)
       ]
 
   pub name-some : end ≡ at + lengthOf (identifier (drop at s)) → (end ≡ at → ⊥)
@@ -86,16 +86,18 @@ module _ (s : List ℕ) (at end : ℕ) where
   name-some e z =
       elim (see-name (drop at s)) [
         | no-name h ↦ absurd (z (let d : end ≡ at + 0 = rw h at e in omega arith))
-        | a-name h p q ↦
+        | a-name h p q k ↦
             let d : end ≡ at + length (spelled (drop at s)) = rw h at e in
-            (omega arith, rw h (ap {B = Meant} (λ n. token (name (spelled (drop at s))) n) (let w : end - (at + 1) ≡ length (spelled (drop at s)) - 1 = omega arith in w)), (q, d))
+            let w : end - (at + 1) ≡ length (spelled (drop at s)) - 1 = omega arith in
+            let z : at + 0 ≡ at = omega arith in
+            (omega arith, rw h (ap {B = Meant} (λ n. token (name (spelled (drop at s))) n) w), (rw (getD-drop at s 0 0, z) at k, q, d))
       ]
 
   pub call-none : end ≡ at + 1 + lengthOf (identifier (drop (at + 1) s)) → end ≡ at + 1 → wrong ≡ asCall (identifier (drop (at + 1) s))
   call-none e z =
       elim (see-name (drop (at + 1) s)) [
         | no-name h ↦ rw h
-        | a-name h p q ↦ absurd (let d : end ≡ at + 1 + length (spelled (drop (at + 1) s)) = rw h at e in omega arith)
+        | a-name h p q k ↦ absurd (let d : end ≡ at + 1 + length (spelled (drop (at + 1) s)) = rw h at e in omega arith)
       ]
 
   pub call-some : end ≡ at + 1 + lengthOf (identifier (drop (at + 1) s)) → (end ≡ at + 1 → ⊥)
@@ -104,7 +106,7 @@ module _ (s : List ℕ) (at end : ℕ) where
   call-some e z =
       elim (see-name (drop (at + 1) s)) [
         | no-name h ↦ absurd (z (let d : end ≡ at + 1 + 0 = rw h at e in omega arith))
-        | a-name h p q ↦
+        | a-name h p q k ↦
             let d : end ≡ at + 1 + length (spelled (drop (at + 1) s)) = rw h at e in
             (omega arith, rw h (ap {B = Meant} (λ n. token (call (spelled (drop (at + 1) s))) n) (let w : end - (at + 1) ≡ length (spelled (drop (at + 1) s)) = omega arith in w)), (spelled-inside s (at + 1) p, q, d))
       ]
@@ -120,7 +122,7 @@ module _ (s : List ℕ) (i k : ℕ) where
   ends-other h e n = rw (drop-cons s i 0 h, of-ne 3 _ k e n) (omega arith)
 
   pub ends-name : i < length s → k ≡ classOf (getD s i 0) → k ≡ 3 → (e : ℕ) → e ≡ i + 1 + length (front inName (drop (i + 1) s)) → e ≤ i + 15 → e ≡ i + lengthOf (identifier (drop i s))
-  unfolding identifier spelled
+  unfolding identifier spelled tailOf
   ends-name h q t e d l =
       let m : length (front inName (drop (suc i) s)) ≤ 14 = omega (arith, d, ap (λ (j : ℕ). length (front inName (drop j s))) (add-one i)) in
       rw (drop-cons s i 0 h, of-eq 3 _ k q t, le-leb _ 14 m) (omega (arith, d, ap (λ (j : ℕ). length (front inName (drop j s))) (add-one i), length-spell (front inName (drop (suc i) s))))

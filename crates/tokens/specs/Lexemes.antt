@@ -6,7 +6,7 @@ use mathlib.Core.List.{List, [], _∷_}
 use Prim.Native.Nat.{ℕ, zero, suc, _+_, _-_, _≤_, _<_}
 use lib.ListN.{length, getD, take, drop}
 use lib.Dec.{ltb}
-use Rattle.text.specs.Classes.{isDigit, inName, endsLine, inLine, front}
+use Rattle.text.specs.Classes.{isCapital, isDigit, inName, endsLine, inLine, front}
 use Rattle.text.specs.Tokens.{Token as Meaning, malformed, name, call, macrodigit, string, variable, sign, Lexeme as Meant, token, gap, wrong, spelled, value, number, trim, dotted, Quoted as Chars, unclosed, closed, quoted, lex}
 use Rattle.classes.specs.Table.{part}
 use Rattle.tokens.specs.declared.Token.{Token}
@@ -92,11 +92,11 @@ lexemeOf s at T.String n = token (tokenOf s at T.String) n
 lexemeOf s at (T.Variable start size) n = token (tokenOf s at (T.Variable start size)) n
 lexemeOf s at T.Sign n = token (tokenOf s at T.Sign) n
 
--- what is known of a token's bytes: an identifier is short and ends with the token, a string is closed, an index lies inside
+-- what is known of a token's bytes: an identifier has a capital, is short and ends with the token, a string is closed, an index lies inside
 abbrev pub Proper : List ℕ → ℕ → Token → ℕ → Type 0
 Proper s at T.Gap end = Unit {0}
 Proper s at T.Malformed end = Unit {0}
-Proper s at T.Name end = (length (spelled (drop at s)) ≤ 15) × (end ≡ at + length (spelled (drop at s)))
+Proper s at T.Name end = (isCapital (getD s at 0) ≡ true) × (length (spelled (drop at s)) ≤ 15) × (end ≡ at + length (spelled (drop at s)))
 Proper s at T.Call end = (at + 1 < length s) × (length (spelled (drop (at + 1) s)) ≤ 15) × (end ≡ at + 1 + length (spelled (drop (at + 1) s)))
 Proper s at (T.Macrodigit v) end = Unit {0}
 Proper s at T.String end = quoted (getD s at 0) false (drop (at + 1) s) ≡ closed (charactersOf (quoted (getD s at 0) false (drop (at + 1) s))) (end - (at + 1))

@@ -2,7 +2,8 @@ use mathlib.Core.Path.{_≡_, refl}
 use Prim.Native.Nat.{_-_}
 use lib.ListN.{length, drop, length-set}
 use lib.Seq.{sets}
-use Rattle.names.specs.Names.{tailOf}
+use Rattle.names.specs.Names.{}
+use Rattle.text.specs.Tokens.{tailOf}
 use Rattle.names.proofs.Spelling.{tail-of}
 use Rattle.names.proofs.Writing.{Owes, owes-room, owes-more, owes-end, owes-out}
 use borrow.Author.Needs.{needs}
