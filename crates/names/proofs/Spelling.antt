@@ -14,11 +14,10 @@ use Rattle.meaning.specs.Goodness.{span}
 use Rattle.meaning.specs.Elements.{same}
 use Rattle.meaning.proofs.Truth.{never, is-true, is-false, see, and-right}
 use Rattle.text.specs.Classes.{classOf, of, isCapital, inName, front, spell}
-use Rattle.text.specs.Tokens.{identifier}
+use Rattle.text.specs.Tokens.{identifier, tailOf, spelled}
 use Rattle.classes.specs.Table.{spelling}
 use Rattle.classes.proofs.Runs.{run-yes, run-no, run-past}
 use Rattle.names.specs.Names.{keyAt}
-use Rattle.text.specs.Tokens.{tailOf, spelled}
 use Rattle.names.specs.Index.{mixed, hashFrom, bucket}
 
 -- a byte of a name is spelt by a byte that is not 0

@@ -1,18 +1,18 @@
 -- What stays true while a text is read: the elements so far are good, and their name numbers agree with the names.
 use mathlib.Core.Path.{_≡_, refl, sym, _∙_, ap, subst}
-use mathlib.Core.Bool.{Bool, true, false, _&&_, _||_, not, cond}
+use mathlib.Core.Bool.{Bool, true, false, cond}
 use mathlib.Core.Option.{Option, none, some}
 use mathlib.Core.List.{List, [], _∷_, _++_, map, append-assoc, append-nil}
-use Prim.Native.Nat.{ℕ, zero, suc, _+_, _≤_, _<_}
+use Prim.Native.Nat.{ℕ, suc, _+_}
 use native.Mathlib.Omega.{arith}
-use lib.ListN.{length, getD, length-append}
-use lib.Dec.{eqb, leb, ltb}
+use lib.ListN.{length, length-append}
+use lib.Dec.{eqb}
 use borrow.Author.Tests.{eqb-true}
-use Rattle.meaning.specs.Elements.{Element, kind, body, cut, join, size, isKind}
-use Rattle.meaning.specs.Goodness.{Part, field, outside, start, left, right, after, ended, State, at, tests, firstFailing, fault, stateAfter, partAfter, mayEnd, firstBad, badProgram, span, stands, paired, implies, endsSide, underLimit, onRight}
-use Rattle.meaning.proofs.Truth.{Seen, is-true, is-false, see}
+use Rattle.meaning.specs.Elements.{Element, kind, body, cut, join, size}
+use Rattle.meaning.specs.Goodness.{Part, field, outside, start, left, right, after, ended, State, at, tests, firstFailing, fault, stateAfter, partAfter, mayEnd, firstBad, badProgram, span, stands}
+use Rattle.meaning.proofs.Truth.{is-true, is-false, see}
 use Rattle.meaning.proofs.Cutting.{Whole, w-none, w-more, cut-join}
-use Rattle.text.specs.Tokens.{Token, malformed, name, call, macrodigit, string, variable, sign, Placed, placed, tokens}
+use Rattle.text.specs.Tokens.{Token, malformed, name, call, macrodigit, string, variable, sign, Placed}
 use Rattle.text.specs.Numbering.{Key, nameKey, numberOf, has, adding}
 use Rattle.text.specs.Agreeing.{naming, Counted, over, Distinct, alone}
 use Rattle.text.proofs.Names.{Proper, Spelt, AllProper, no-token, one-more, tokens-proper, AllNamed, no-name, named-key, named-snoc, number-known, number-new, adding-known, adding-new, counted-other, counted-known, counted-first, distinct-snoc}

@@ -1,18 +1,18 @@
 -- Names: what a token spells, their numbers, their records.
 use mathlib.Core.Path.{_≡_, refl, sym, _∙_, ap, ap₂}
-use mathlib.Core.Bool.{Bool, true, false, _&&_, _||_, not, cond}
+use mathlib.Core.Bool.{Bool, true, false, _&&_, _||_, cond}
 use mathlib.Core.Option.{Option, none, some}
 use mathlib.Core.List.{List, [], _∷_, _++_, map, tail}
-use Prim.Native.Nat.{ℕ, zero, suc, _+_, _-_, _*_, _≤_, _<_}
+use Prim.Native.Nat.{ℕ, zero, suc, _+_, _-_, _≤_, _<_}
 use native.Mathlib.Omega.{arith}
-use lib.ListN.{length, drop, replicate, length-append}
+use lib.ListN.{length, drop, replicate}
 use lib.Dec.{eqb, leb, ltb}
-use borrow.Author.Tests.{eqb-true, eqb-false, leb-true, ne-eqb}
+use borrow.Author.Tests.{leb-true}
 use Rattle.meaning.specs.Elements.{Element, kind, same}
 use Rattle.meaning.specs.Goodness.{span}
 use Rattle.meaning.proofs.Truth.{is-true, is-false, see, or-false, and-left, and-right, same-eq, same-refl}
-use Rattle.text.specs.Classes.{classOf, of, isCapital, isLetter, isDigit, inName, inLine, endsLine, front, spell}
-use Rattle.text.specs.Tokens.{Token, malformed, name, call, macrodigit, string, variable, sign, Lexeme, token, gap, wrong, tailOf, spelled, identifier, asName, asCall, real, value, number, trim, dotted, apart, indexed, Quoted, unclosed, closed, quoted, asString, commented, asGap, slashed, lexOf, lex, Placed, placed, follow, tokens}
+use Rattle.text.specs.Classes.{classOf, of, isCapital, isLetter, isDigit, inName, endsLine, front, spell}
+use Rattle.text.specs.Tokens.{Token, malformed, name, call, macrodigit, string, variable, sign, Lexeme, token, gap, tailOf, spelled, identifier, asName, asCall, real, value, number, dotted, apart, indexed, Quoted, unclosed, closed, quoted, asString, commented, asGap, slashed, lexOf, lex, Placed, placed, follow, tokens}
 use Rattle.text.specs.Numbering.{Key, nameKey, numberOf, has, adding}
 use Rattle.text.specs.Reading.{element}
 use Rattle.text.specs.Agreeing.{naming, Counted, over, other, known, first, Distinct, alone, besides}

@@ -13,7 +13,7 @@ use Rattle.text.specs.Reading.{Reader, reader, free, between, owed, name
 use Rattle.text.specs.Agreeing.{Counted, Distinct}
 use Rattle.text.specs.Answers.{recordOf, Outcome, readText}
 use Rattle.text.proofs.Names.{distinct-records}
-use Rattle.text.proofs.Kept.{Agreed, agreed}
+use Rattle.text.proofs.Kept.{agreed}
 
 module _ (text : List ℕ) (es : List Element) (ns : List Key) (h : said text ≡ says es ns) where
   -- "The result is always a good program"

@@ -12,16 +12,7 @@ use Rattle.meaning.proofs.Truth.{is-true, is-false, see, or-false}
 use Rattle.text.specs.Numbering.{Key, numberOf, has, adding}
 use Rattle.text.proofs.Names.{adding-known, adding-new}
 use Rattle.variables.specs.Variables.{keysFrom, keysOf}
-
--- how many keys have the kind k
-unfoldable pub countOf : ℕ → List Key → ℕ
-countOf k [] = 0
-countOf k (v ∷ vs) = cond (eqb k (kind v)) 1 0 + countOf k vs
-
-pub record Few (vs : List Key) : Type 0 where
-  -- every key's kind is 8, 9 or 10: these three make up the length
-  pub typed : countOf 8 vs + countOf 9 vs + countOf 10 vs ≡ length vs
-  pub each : (k : ℕ) → countOf k vs ≤ 16
+use Rattle.variables.specs.Few.{countOf, Few}
 
 pub few-none : Few []
 unfolding countOf
