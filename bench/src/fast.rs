@@ -8,12 +8,17 @@
 mod building;
 mod bytes;
 mod check;
+mod classes;
 mod matching;
+mod names;
+mod reading;
 mod sentence;
+mod variables;
 
 use bytes::*;
 use check::{Index, Place, NONE};
 use matching::{Argument, Matcher};
+pub use reading::{read, Reading};
 use sentence::{Compiled, Right};
 use std::cell::RefCell;
 
@@ -25,6 +30,7 @@ pub const NO_ROOM: u8 = 4;
 pub const BAD_SIZES: u8 = 5;
 pub const BAD_PROGRAM: u8 = 6;
 pub const BAD_FIELD: u8 = 7;
+pub const BAD_TEXT: u8 = 8;
 
 const LONGEST: usize = 65_536;
 

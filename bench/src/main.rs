@@ -3,9 +3,12 @@
 //! `bench/run` builds and starts it; the modes are in `USAGE`.
 
 mod agree;
+mod agree_reading;
 mod fast;
 mod measure;
 mod ours;
+mod reading_table;
+mod texts;
 mod workloads;
 
 // The plain reference, as the tests have it.
@@ -29,6 +32,8 @@ mod manual;
 mod matching;
 #[path = "../../tests/reference/src/notation.rs"]
 mod notation;
+#[path = "../../tests/reference/src/spelled.rs"]
+mod spelled;
 #[path = "../../tests/reference/src/text.rs"]
 mod text;
 #[path = "../../tests/reference/src/token.rs"]
@@ -55,29 +60,35 @@ fn main() {
         Some("agree") => {
             let cases = words.get(1).map_or(100_000, |cases| cases.parse().expect("a number of cases"));
             agree::agree(Path::new("."), cases);
+            agree_reading::agree(Path::new("."), cases);
         }
-        _ => table(&words, options.is_empty()),
+        _ => {
+            table(&words, options.is_empty());
+            reading_table::table(&words, options.is_empty());
+        }
     }
 }
 
 /// Measures and prints row by row.
 fn table(words: &[String], with_plain: bool) {
     let wanted = |workload: &Workload| words.is_empty() || words.iter().any(|word| workload.name.contains(&word[..]));
+    let workloads: Vec<Workload> = workloads::all().into_iter().filter(wanted).collect();
+    if workloads.is_empty() {
+        return;
+    }
     println!("nanoseconds a step; a run without steps counts as one");
     println!(
         "{:16} {:>6} {:>7} {:>12} {:>10} {:>10} {:>10}",
         "workload", "size", "steps", "plain", "fast", "ours", "ours/fast"
     );
     let mut rows = Vec::new();
-    for workload in workloads::all().into_iter().filter(wanted) {
+    for workload in workloads {
         let measured = measure(&workload, with_plain);
         print_row(&workload, &measured);
         rows.push((workload, measured));
     }
-    if !rows.is_empty() {
-        print_growth(&rows);
-        print_ratios(&rows);
-    }
+    print_growth(&rows);
+    print_ratios(&rows);
 }
 
 fn print_row(workload: &Workload, measured: &Measured) {

@@ -8,7 +8,7 @@ use std::time::{Duration, Instant};
 /// Many short rounds, so that some of each side's are left undisturbed; long runs get fewer.
 const MOST_ROUNDS: usize = 40;
 const FEWEST_ROUNDS: usize = 5;
-const ROUND: Duration = Duration::from_millis(2);
+pub const ROUND: Duration = Duration::from_millis(2);
 const LONG: Duration = Duration::from_millis(400);
 /// The plain reference is given more steps as long as it needs less than this.
 const PATIENCE: Duration = Duration::from_millis(60);
@@ -94,18 +94,23 @@ pub fn measure(workload: &Workload, with_plain: bool) -> Measured {
     let mut sides = [Bench::new(workload, ours::run), Bench::new(workload, fast::run)];
     let steps = compare(&mut sides, workload.budget).steps;
     let plain = with_plain.then(|| time_plain(workload));
+    let [ours, fast] = best_rounds(|side| sides[side].round());
+    Measured { steps, ours, fast, plain }
+}
+
+/// The best round of each of two sides, in turns, so that a busy machine hits both.
+pub fn best_rounds(mut round_of: impl FnMut(usize) -> f64) -> [f64; 2] {
     let mut best = [f64::INFINITY; 2];
-    // In turns, so that a busy machine hits both.
     let start = Instant::now();
     for round in 0..MOST_ROUNDS {
         if round >= FEWEST_ROUNDS && start.elapsed() > LONG {
             break;
         }
-        for (side, best) in sides.iter_mut().zip(&mut best) {
-            *best = best.min(side.round());
+        for (side, best) in best.iter_mut().enumerate() {
+            *best = best.min(round_of(side));
         }
     }
-    Measured { steps, ours: best[0], fast: best[1], plain }
+    best
 }
 
 /// Runs all sides and stops everything where they differ.

@@ -11,9 +11,10 @@ pub enum Code {
     BadSizes,
     BadProgram,
     BadField,
+    BadText,
 }
 
-const CODES: [Code; 8] = [
+const CODES: [Code; 9] = [
     Code::Done,
     Code::Paused,
     Code::NoMatch,
@@ -22,6 +23,7 @@ const CODES: [Code; 8] = [
     Code::BadSizes,
     Code::BadProgram,
     Code::BadField,
+    Code::BadText,
 ];
 
 #[derive(Clone, Copy, Debug, PartialEq, Eq)]
@@ -39,6 +41,18 @@ pub struct Record {
     pub code: Code,
     pub place: usize,
 }
+
+/// What came of reading a text: bytes of the program and of the name list, both 0 where the code is not `Done`.
+#[derive(Clone, Copy, Debug, PartialEq, Eq)]
+pub struct Reading {
+    pub code: Code,
+    pub program: usize,
+    pub names: usize,
+    pub place: usize,
+}
+
+/// A byte that says what it is, then the name in 15 bytes.
+pub const NAME_RECORD: usize = 16;
 
 mod face {
     extern "C" {
@@ -75,11 +89,21 @@ mod face {
             part: *mut u64,
             part_len: usize,
         );
+        pub fn odolzagi_read(
+            text: *const u8,
+            text_len: usize,
+            program: *mut u8,
+            program_len: usize,
+            names: *mut u8,
+            names_len: usize,
+            answer: *mut u64,
+            answer_len: usize,
+        );
     }
 }
 
 fn code(number: u64) -> Code {
-    CODES[usize::try_from(number).expect("a code is below 8")]
+    CODES[usize::try_from(number).expect("a code is below 9")]
 }
 
 fn size(number: u64) -> usize {
@@ -156,4 +180,31 @@ pub fn pointer<'a>(answer: &Answer, program: &'a [u8], field: &'a [u8]) -> &'a [
     }
     let slice = if part[0] == 1 { program } else { field };
     &slice[size(part[1])..][..size(part[2])]
+}
+
+/// Reads rules as text into program bytes and the list of their names. It needs up to 256 KB of stack.
+pub fn read(text: &[u8], program: &mut [u8], names: &mut [u8]) -> Reading {
+    let mut a = [0; 4];
+    // SAFETY: as in `run`.
+    unsafe {
+        face::odolzagi_read(
+            text.as_ptr(),
+            text.len(),
+            program.as_mut_ptr(),
+            program.len(),
+            names.as_mut_ptr(),
+            names.len(),
+            a.as_mut_ptr(),
+            a.len(),
+        );
+    }
+    Reading { code: code(a[0]), program: size(a[1]), names: size(a[2]), place: size(a[3]) }
+}
+
+/// The names of a list that `read` wrote, in the order of their numbers.
+pub fn names(list: &[u8]) -> impl Iterator<Item = &str> {
+    list.chunks_exact(NAME_RECORD).map(|record| {
+        let name = std::str::from_utf8(&record[1..]).expect("a name is ASCII");
+        name.trim_end_matches('\0')
+    })
 }

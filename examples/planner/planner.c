@@ -1,5 +1,6 @@
-/* Expands a folder's start.bin by its rules.bin through the library: first step by step, as the support desk sees it, then
- * in one run, as a planner does; at last a field that is refused. Usage: planner FOLDER */
+/* Reads a folder's rules.ref, which gives the bytes of rules.bin, and expands start.bin by them through the library: first
+ * step by step, as the support desk sees it, then in one run, as a planner does; at last a field that is refused.
+ * Usage: planner FOLDER */
 #include "odolzagi.h"
 
 #include <stdio.h>
@@ -9,7 +10,8 @@ enum { LONGEST = 65536, BUDGET = 1000000 };
 
 /* Four bytes more, since print_field may come upon a body that is cut short. */
 static uint8_t program[LONGEST], start[LONGEST], field[LONGEST + 4], scratch[LONGEST];
-static size_t program_len, used;
+static uint8_t text[LONGEST], rules[LONGEST], names[LONGEST];
+static size_t program_len, used, text_len, rules_len;
 
 static int load(const char *folder, const char *name, uint8_t *bytes, size_t *length) {
     char path[4096];
@@ -29,7 +31,26 @@ static int load(const char *folder, const char *name, uint8_t *bytes, size_t *le
     return 1;
 }
 
-/* Names as #number, so that no list of names is needed. */
+static void print_answer(const uint64_t *answer) {
+    printf("%u %u %u %u\n", (unsigned)answer[0], (unsigned)answer[1], (unsigned)answer[2], (unsigned)answer[3]);
+}
+
+/* The text into the program that is run from here on, and the names that its numbers stand for. */
+static void read_rules(void) {
+    uint64_t answer[4];
+    size_t i;
+    int same;
+    odolzagi_read(text, text_len, program, LONGEST, names, LONGEST, answer, 4);
+    print_answer(answer);
+    program_len = (size_t)answer[1];
+    same = program_len == rules_len && memcmp(program, rules, rules_len) == 0;
+    for (i = 0; i < answer[2] / ODOLZAGI_NAME_RECORD; i++) {
+        printf(" #%u %.15s", (unsigned)i, (const char *)names + i * ODOLZAGI_NAME_RECORD + 1);
+    }
+    printf("\nthe bytes of rules.bin: %s\n", same ? "yes" : "no");
+}
+
+/* Names as #number, since the start has some that the rules have not. */
 static void print_field(const uint8_t *f, size_t length) {
     size_t i = 0;
     while (i < length) {
@@ -62,10 +83,6 @@ static void step_by_step(void) {
     printf("code %u, place %u\n", (unsigned)record[1], (unsigned)record[2]);
 }
 
-static void print_answer(const uint64_t *answer) {
-    printf("%u %u %u %u\n", (unsigned)answer[0], (unsigned)answer[1], (unsigned)answer[2], (unsigned)answer[3]);
-}
-
 static void one_run(void) {
     uint64_t answer[4];
     size_t i;
@@ -92,8 +109,10 @@ int main(int count, char **arguments) {
         fprintf(stderr, "usage: planner FOLDER\n");
         return 2;
     }
-    if (!load(arguments[1], "rules.bin", program, &program_len)) return 1;
+    if (!load(arguments[1], "rules.ref", text, &text_len)) return 1;
+    if (!load(arguments[1], "rules.bin", rules, &rules_len)) return 1;
     if (!load(arguments[1], "start.bin", start, &used)) return 1;
+    read_rules();
     step_by_step();
     one_run();
     refused();

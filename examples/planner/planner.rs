@@ -1,14 +1,26 @@
-//! The same as planner.c, from Rust: step by step, then in one run, then a field that is refused. Usage: planner FOLDER
+//! The same as planner.c, from Rust: the rules as text, then step by step, then in one run, then a field that is refused.
+//! Usage: planner FOLDER
 
 mod odolzagi;
 
-use odolzagi::{pointer, run, Answer, Code, Record};
+use odolzagi::{names, pointer, read, run, Answer, Code, Reading, Record};
 use std::path::Path;
 
 const LONGEST: usize = 65_536;
 const BUDGET: u32 = 1_000_000;
 
-/// Names as #number, so that no list of names is needed.
+/// The program that a text gives; the names that its numbers stand for are printed.
+fn read_rules(text: &[u8]) -> Vec<u8> {
+    let (mut rules, mut list) = (vec![0; LONGEST], vec![0; LONGEST]);
+    let Reading { code, program, names: listed, place } = read(text, &mut rules, &mut list);
+    println!("{} {program} {listed} {place}", code as u8);
+    let numbered = names(&list[..listed]).enumerate().map(|(number, name)| format!(" #{number} {name}"));
+    println!("{}", numbered.collect::<String>());
+    rules.truncate(program);
+    rules
+}
+
+/// Names as #number, since the start has some that the rules have not.
 fn shown(mut field: &[u8]) -> String {
     let mut text = String::new();
     while let Some((kind, rest)) = field.split_first() {
@@ -61,8 +73,10 @@ fn refused(program: &[u8], mut field: Vec<u8>, used: usize) {
 
 fn main() -> std::io::Result<()> {
     let folder = std::env::args().nth(1).expect("usage: planner FOLDER");
-    let program = std::fs::read(Path::new(&folder).join("rules.bin"))?;
-    let mut field = std::fs::read(Path::new(&folder).join("start.bin"))?;
+    let file = |name| std::fs::read(Path::new(&folder).join(name));
+    let program = read_rules(&file("rules.ref")?);
+    println!("the bytes of rules.bin: {}", if program == file("rules.bin")? { "yes" } else { "no" });
+    let mut field = file("start.bin")?;
     let used = field.len();
     field.resize(LONGEST, 0);
     step_by_step(&program, field.clone(), used);

@@ -1,6 +1,7 @@
 //! Elements in flat bytes, read a word at a time where that is quicker.
 
 pub const CHARACTER: u8 = 0x01;
+pub const NAME: u8 = 0x02;
 pub const MACRODIGIT: u8 = 0x03;
 pub const OPEN: u8 = 0x04;
 pub const CLOSE: u8 = 0x05;

@@ -36,7 +36,7 @@ const USAGE: &str = "\
 reference cases DIR                   writes each set's case files into DIR/SET/data, and their print to DIR/SET/stdout
 reference manual                      lists the manual's programs, whose runs are confirmed
 reference expand DIR                  prints what expand prints for DIR/rules.bin and DIR/start.bin
-reference planner DIR                 prints what the planners print for DIR/rules.bin and DIR/start.bin
+reference planner DIR                 prints what the planners print for DIR/rules.ref, DIR/rules.bin and DIR/start.bin
 reference bytes FILE.ref... OUT.bin   writes the last text's bytes; the texts share one name list
 reference check-brute                 compares the two matchers";
 

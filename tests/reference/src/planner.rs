@@ -1,8 +1,9 @@
-//! What the planners in examples/planner have to print for a folder with good rules.bin and start.bin.
+//! What the planners in examples/planner have to print for a folder with good rules.ref, rules.bin and start.bin.
 
 use crate::element::{elements, CALL, CHARACTER, CLOSE, MACRODIGIT, NAME, OPEN, S};
 use crate::expand::expand;
 use crate::machine::{pointer, run, Record, LONGEST, PAUSED};
+use crate::text::{read_rules, Answer};
 use std::path::Path;
 
 pub fn planner(folder: &Path) -> std::io::Result<String> {
@@ -10,7 +11,18 @@ pub fn planner(folder: &Path) -> std::io::Result<String> {
     let mut start = std::fs::read(folder.join("start.bin"))?;
     let used = start.len();
     start.resize(LONGEST, 0);
-    Ok(steps(&program, start.clone(), used) + &expand(folder) + &refused(&program, start, used))
+    let reading = reading(&std::fs::read(folder.join("rules.ref"))?, &program);
+    Ok(reading + &steps(&program, start.clone(), used) + &expand(folder) + &refused(&program, start, used))
+}
+
+/// The answer, the names with their numbers, and whether the text gives the program.
+fn reading(text: &[u8], program: &[u8]) -> String {
+    let Answer { code, program: read, list, place } = read_rules(text, LONGEST, LONGEST);
+    let name = |record: &[u8]| String::from_utf8_lossy(&record[1..]).trim_end_matches('\0').to_owned();
+    let names = list.chunks(16).enumerate().map(|(number, record)| format!(" #{number} {}", name(record)));
+    let same = if read == program { "yes" } else { "no" };
+    let answer = format!("{code} {} {} {place}\n", read.len(), list.len());
+    answer + &names.collect::<String>() + &format!("\nthe bytes of rules.bin: {same}\n")
 }
 
 fn steps(program: &[u8], mut field: Vec<u8>, used: usize) -> String {
