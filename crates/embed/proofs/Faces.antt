@@ -11,7 +11,8 @@ use Rattle.meaning.specs.Machine.{machine, answer}
 use Rattle.meaning.specs.Desk.{desk, deskCall}
 use Rattle.meaning.specs.Pointer.{pointer}
 use Rattle.desk.proofs.Calls.{call-alters-nothing}
-use Rattle.embed.specs.Face.{lent, runFace, kept, deskFace, spot, pointerFace}
+use Rattle.embed.specs.Face.{lent, runFace, kept, deskFace, spot, pointerFace, readFace}
+use Rattle.text.specs.Answers.{reply, outcome, readText}
 
 pub three-written : (l : List ℕ) (a b c : ℕ) → 3 ≤ length l → set (set (set l 0 a) 1 b) 2 c ≡ a ∷ b ∷ c ∷ drop 3 l
 three-written [] a b c h = absurd (omega (arith, h))
@@ -35,6 +36,16 @@ module _ (p f : List ℕ) (used : ℕ) (s : List ℕ) (budget : ℕ) (l : List �
       → l′ ≡ n ∷ k ∷ u ∷ drop 3 l → runFace p f used s budget l ≡ lent (set l′ 3 i) f′ s′
   unfolding runFace
   answer-told h {c} {k} {u} {i} m e w = rw (le-ltb (length l) 4 h, m, w, e, fourth-written l c k u i h)
+
+module _ (t p n l : List ℕ) where
+  pub nothing-read : length l < 4 → readFace t p n l ≡ lent l p n
+  unfolding readFace
+  nothing-read h = rw (lt-ltb (length l) 4 h)
+
+  pub read-told : 4 ≤ length l → {c k u i m : ℕ} {p′ n′ l′ : List ℕ} → outcome (reply c k u i) p′ n′ ≡ readText t p n → m ≡ c
+      → l′ ≡ m ∷ k ∷ u ∷ drop 3 l → readFace t p n l ≡ lent (set l′ 3 i) p′ n′
+  unfolding readFace
+  read-told h {c} {k} {u} {i} r e w = rw (le-ltb (length l) 4 h, ← r, w, e, fourth-written l c k u i h)
 
 module _ (p f s : List ℕ) where
   pub no-record : (l : List ℕ) → length l < 3 → deskFace l p f s ≡ lent l f s

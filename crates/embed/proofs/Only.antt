@@ -12,7 +12,7 @@ use Rattle.meaning.proofs.Truth.{is-true, is-false, see}
 use Rattle.desk.proofs.Pointing.{past-part, rest-of-part, used-past-field, place-past-used, inside-used}
 use Rattle.embed.specs.Face.{Lent, lent, spot, pointerFace, named}
 
--- of the run and of the desk: no other numbers, no other byte
+-- of the run, of the desk and of reading: no other numbers, no other byte
 pub only-lent : {whole : Lent} {l₁ l₂ f₁ f₂ s₁ s₂ : List ℕ} → whole ≡ lent l₁ f₁ s₁ → whole ≡ lent l₂ f₂ s₂ → (l₁ ≡ l₂) × (f₁ ≡ f₂) × (s₁ ≡ s₂)
 only-lent h k =
     let e = sym h ∙ k in

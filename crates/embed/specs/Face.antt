@@ -1,4 +1,4 @@
--- What the functions for C leave in the numbers, the field buffer and the scratch that they were lent.
+-- What the functions for C leave in the numbers and the two buffers that they were lent.
 use mathlib.Core.Bool.{cond}
 use mathlib.Core.List.{List, [], _∷_, _++_}
 use Prim.Native.Nat.{ℕ}
@@ -7,8 +7,9 @@ use lib.ListN.{length, take, drop}
 use Rattle.meaning.specs.Machine.{Answer, answer, machine}
 use Rattle.meaning.specs.Desk.{Desk, desk, deskCall}
 use Rattle.meaning.specs.Pointer.{pointer}
+use Rattle.text.specs.Answers.{reply, Outcome, outcome, readText}
 
--- numbers, field buffer and scratch
+-- numbers, and two buffers: field and scratch, or program and name list
 pub data Lent : Type 0 where
   lent : List ℕ → List ℕ → List ℕ → Lent
 
@@ -47,3 +48,12 @@ named program field [] = []
 named program field (a ∷ []) = []
 named program field (a ∷ b ∷ []) = []
 named program field (which ∷ from ∷ size ∷ more) = take size (drop from (cond (eqb which 1) program field))
+
+-- the four numbers of a reading; further numbers stay
+abbrev pub toldRead : List ℕ → Outcome → Lent
+toldRead numbers (outcome (reply c p n place) program names) = lent (c ∷ p ∷ n ∷ place ∷ drop 4 numbers) program names
+
+-- reading a text: with room for fewer than four numbers nothing happens
+unfoldable pub readFace : List ℕ → List ℕ → List ℕ → List ℕ → Lent
+readFace text program names numbers =
+    cond (ltb (length numbers) 4) (lent numbers program names) (toldRead numbers (readText text program names))

@@ -1,4 +1,4 @@
-// The face for C: run, the desk's call and the pointer over plain numbers. A slice is a pointer and a length there.
+// The face for C: run, the desk's call, the pointer and reading over plain numbers. A slice is a pointer and a length there.
 use desk::Record;
 use machine::Answer;
 use machine::Code;
@@ -8,7 +8,7 @@ ghost use Prim.Native.Nat.{ℕ, _≤_};
 ghost use lib.ListN.{length, drop};
 ghost use Rattle.meaning.specs.Pointer.{pointer};
 ghost use Rattle.machine.specs.Codes.{codeOf};
-ghost use Rattle.embed.specs.Face.{lent, runFace, deskFace, pointerFace};
+ghost use Rattle.embed.specs.Face.{lent, runFace, deskFace, pointerFace, readFace};
 
 // The first three of some numbers.
 fn write(numbers: &mut [u64], first: u64, second: u64, third: u64)
@@ -135,4 +135,28 @@ pub extern "C" fn odolzagi_pointer<'a>(
         return;
     }
     write(part, 2, place as u64, length as u64);
+}
+
+// Writes code, program bytes, list bytes and place into the answer; touches nothing where that has no room for four.
+#[no_mangle]
+pub extern "C" fn odolzagi_read(
+    text: &[u8],
+    program: &mut [u8],
+    names: &mut [u8],
+    answer: &mut [u64],
+)
+    ensures { λ _. ⌜ readFace (now (text .entry)) (now (program .entry)) (now (names .entry)) (now (answer .entry)) ≡ lent (now (answer .exit)) (now (program .exit)) (now (names .exit)) ⌝ }
+{
+    if answer.len() < 4 {
+        return;
+    }
+    let read = reading::read(text, program, names);
+    let code = read.code;
+    write(
+        answer,
+        reading::number(code) as u64,
+        read.program as u64,
+        read.names as u64,
+    );
+    answer[3] = read.place as u64;
 }
