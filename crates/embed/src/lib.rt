@@ -137,26 +137,26 @@ pub extern "C" fn odolzagi_pointer<'a>(
     write(part, 2, place as u64, length as u64);
 }
 
-// Writes code, program bytes, list bytes and place into the answer; touches nothing where that has no room for four.
+// Writes code, program bytes, list bytes and place into the numbers; touches nothing where they have no room for four.
 #[no_mangle]
 pub extern "C" fn odolzagi_read(
     text: &[u8],
     program: &mut [u8],
     names: &mut [u8],
-    answer: &mut [u64],
+    numbers: &mut [u64],
 )
-    ensures { λ _. ⌜ readFace (now (text .entry)) (now (program .entry)) (now (names .entry)) (now (answer .entry)) ≡ lent (now (answer .exit)) (now (program .exit)) (now (names .exit)) ⌝ }
+    ensures { λ _. ⌜ readFace (now (text .entry)) (now (program .entry)) (now (names .entry)) (now (numbers .entry)) ≡ lent (now (numbers .exit)) (now (program .exit)) (now (names .exit)) ⌝ }
 {
-    if answer.len() < 4 {
+    if numbers.len() < 4 {
         return;
     }
     let read = reading::read(text, program, names);
     let code = read.code;
     write(
-        answer,
+        numbers,
         reading::number(code) as u64,
         read.program as u64,
         read.names as u64,
     );
-    answer[3] = read.place as u64;
+    numbers[3] = read.place as u64;
 }

@@ -18,8 +18,8 @@ cast-write c = search needs
 write-requires : tie.Need-write-requires
 write-requires c κs = search needs
 
-slice-write-answer : tie.Need-slice-write-answer
-slice-write-answer c = search needs
+slice-write-numbers : tie.Need-slice-write-numbers
+slice-write-numbers c = search needs
 
 same-length : tie.Need-same-length
 same-length c = search needs
@@ -46,7 +46,7 @@ odolzagi-read-spec =
     number-requires
     cast-write
     write-requires
-    slice-write-answer
+    slice-write-numbers
     same-length
     same-length-2
     same-length-3
