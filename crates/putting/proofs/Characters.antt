@@ -1,23 +1,29 @@
 -- The characters of a string, one after the other.
 use mathlib.Core.Path.{_≡_, refl, sym, _∙_, ap}
 use mathlib.Core.Bool.{Bool, true, false}
-use mathlib.Core.List.{List, [], _∷_, map}
-use Prim.Native.Nat.{ℕ, suc, _+_, _-_, _≤_, _<_}
+use mathlib.Core.List.{List, [], _∷_}
+use Prim.Native.Nat.{ℕ, suc, _+_, _-_, _*_, _%_, _≤_, _<_}
 use native.Mathlib.Omega.{arith}
 use native.Mathlib.Numerals.{add-one}
-use lib.ListN.{length, getD, drop}
+use lib.ListN.{length, getD, drop, set, length-set}
 use lib.Seq.{drop-cons, drop-drop}
-use lib.Dec.{eqb}
-use borrow.Author.Tests.{eq-eqb, ne-eqb, eqb-true, eqb-false}
+use lib.Dec.{eqb, ltb}
+use borrow.Author.Tests.{le-leb, eq-eqb, ne-eqb, eqb-true, eqb-false}
 use Rattle.meaning.proofs.Truth.{is-true, is-false, see}
 use Rattle.text.specs.Classes.{endsLine}
 use Rattle.text.specs.Tokens.{Quoted, unclosed, closed, longer, before, quoted}
 use Rattle.tokens.specs.Lexemes.{charactersOf}
 use Rattle.text.specs.Reading.{element, putAll}
-use Rattle.meaning.specs.Elements.{Element}
+use Rattle.meaning.specs.Elements.{Element, body}
+use Rattle.meaning.specs.Goodness.{span, underLimit}
+use Rattle.elements.specs.declared.Element.the-variants.{Character}
+use Rattle.elements.specs.Bytes.{digits}
+use Rattle.taking.specs.Standing.{partOf}
+use Rattle.checking.specs.Passing.{HasRoom}
+use Rattle.checking.proofs.Passing.{room-in, symbol-passed}
 use Rattle.putting.specs.declared.Reader.{Reader}
-use Rattle.putting.specs.Putting.{Led, Barred, pastCharacter, Closes}
-use Rattle.putting.proofs.Putting.{Going, going-on, going-bad, going-over}
+use Rattle.putting.specs.Putting.{phaseNext, keptCount, Written, Able, Led, Barred, Going, pastCharacter, Closes, elementsAt, furtherBy, Runs}
+use Rattle.putting.proofs.Putting.{ready-of, put-made, led, going-able, going-on, going-bad, going-over}
 
 -- what a closed string is made of: a doubled quote, its end, or another character
 data Shut (q b : ℕ) (bs : List ℕ) (x : List ℕ) (m : ℕ) : Type 0 where
@@ -152,10 +158,6 @@ pub past-more : (i b q : ℕ) → i < pastCharacter i b q
 unfolding pastCharacter
 past-more i b q = elim (see (eqb b q)) [ is-true h ↦ rw h (omega arith) | is-false h ↦ rw h (omega arith) ]
 
--- the elements of the characters from i on
-abbrev pub elementsAt : List ℕ → ℕ → ℕ → List Element
-elementsAt s q i = map (element 1) (charactersAt s q i)
-
 -- a turn of the loop over a string's characters, and its ends
 module _ {s : List ℕ} {q i last : ℕ} {es : List Element} {q₀ : Reader} {st₀ buf₀ : List ℕ} {q₁ : Reader} {st buf : List ℕ}
     (g : Going es (elementsAt s q i) q₀ st₀ buf₀ q₁ st buf) (h : Closes s q i last) where
@@ -171,3 +173,66 @@ module _ {s : List ℕ} {q i last : ℕ} {es : List Element} {q₀ : Reader} {st
 
   pub turn-over : last ≤ i → Led (putAll es) q₀ st₀ buf₀ q₁ st buf
   turn-over l = going-over (rw (no-character s q i last h l) at g)
+
+-- CHARACTERS THAT SURELY ARE GOOD
+
+character-written : (buf : List ℕ) (len b : ℕ) → b < 256 → len + 2 ≤ length buf → Written buf len (1 ∷ digits (body 1) b) (len + 2) (set (set buf len 1) (len + 1) b)
+unfolding body digits
+character-written buf len b small l =
+    let d : b % 256 ≡ b = omega arith in
+    let s : len + 1 ≡ suc len = omega arith in
+    record { fits = λ f. (refl, rw (d, s)); over = λ o. absurd (omega arith) }
+
+pub lengths : (buf : List ℕ) (len b : ℕ) → length (set (set buf len 1) (len + 1) b) ≡ length buf
+lengths buf len b = length-set (set buf len 1) (len + 1) b ∙ length-set buf len 1
+
+-- a side has room for one more
+module _ (q : Reader) {limit : ℕ} (side : span 3 4 (q .state .part) ≡ true) (is-limit : (n : ℕ) → (q .state .part ≡ 0 → ⊥) → underLimit (partOf (q .state .part)) n ≡ ltb n limit) where
+  has-room : (k : ℕ) → q .state .count + k < limit → HasRoom (furtherBy q k .state)
+  unfolding furtherBy
+  has-room k h = room-in (furtherBy q k .state) refl side is-limit h
+
+  -- one character more
+  plain-led : (k b : ℕ) {st buf : List ℕ} → Able (furtherBy q k) st buf → b < 256 → q .state .count + k < limit → q .len + 2 * k + 2 ≤ length buf
+      → Led (putAll (element 1 b ∷ [])) (furtherBy q k) st buf (furtherBy q (k + 1)) st (set (set buf (q .len + 2 * k) 1) (q .len + 2 * k + 1) b)
+  unfolding furtherBy phaseNext keptCount
+  plain-led k b {st} {buf} a small h l =
+      let steps = symbol-passed (furtherBy q k .state) (has-room k h) 1 b (omega arith) (omega arith) st (ready-of (a .stands)) .steps refl in
+      let made = put-made (furtherBy q k) (Character b) st buf _ st steps (unfold body in small) {p = q .phase} {m = q .variables} {len′ = q .len + 2 * k + 2} refl refl refl refl refl refl (character-written buf (q .len + 2 * k) b small l) (lengths buf (q .len + 2 * k) b) in
+      let count : q .state .count + k + 1 ≡ q .state .count + (k + 1) = omega arith in
+      let bytes : q .len + 2 * k + 2 ≡ q .len + 2 * (k + 1) = omega arith in
+      rw (← count, ← bytes) (led made refl)
+
+  -- k characters were put behind i, and the next is no quote
+  pub plain-more : {s : List ℕ} {quote last i : ℕ} {buf₀ buf : List ℕ} (k : ℕ) → Runs s quote last i q buf₀ (i + k) (furtherBy q k) buf → i + k < last → (getD s (i + k) 0 ≡ quote → ⊥) → getD s (i + k) 0 < 256
+      → q .state .count + k < limit → q .len + 2 * k + 2 ≤ length buf
+      → Runs s quote last i q buf₀ (i + (k + 1)) (furtherBy q (k + 1)) (set (set buf (q .len + 2 * k) 1) (q .len + 2 * k + 1) (getD s (i + k) 0))
+  plain-more {s} {quote} {last} {i} k r l n small h w =
+      let e : i + (k + 1) ≡ i + k + 1 = omega arith in
+      let p : i + (k + 1) ≡ pastCharacter (i + k) (getD s (i + k) 0) quote = e ∙ sym (past-plain (i + k) (getD s (i + k) 0) quote n) in
+      record {
+        shut = rw p (next-character s quote (i + k) last (r .shut) l .1);
+        going = λ es q₀ st₀ buf₀ st a g.
+            let f = r .going es q₀ st₀ buf₀ st a g in
+            turn f (r .shut) l p (plain-led k (getD s (i + k) 0) (going-able a f) small h w) .0;
+      }
+
+-- before the first
+pub runs-none : {s : List ℕ} {quote last i : ℕ} (q : Reader) (buf : List ℕ) → Closes s quote i last → Runs s quote last i q buf i q buf
+runs-none q buf h = record { shut = h; going = λ es q₀ st₀ buf₀ st a g. g }
+
+pub further-none : (q : Reader) → q ≡ furtherBy q 0
+unfolding furtherBy
+further-none q =
+    let c : q .state .count + 0 ≡ q .state .count = omega arith in
+    let l : q .len + 2 * 0 ≡ q .len = omega arith in
+    rw (c, l)
+
+pub runs-from : {s : List ℕ} {quote last i : ℕ} (q : Reader) (buf : List ℕ) → Closes s quote i last → Runs s quote last i q buf (i + 0) (furtherBy q 0) buf
+runs-from {s} {quote} {last} {i} q buf h =
+    let z : i + 0 ≡ i = omega arith in
+    rw (z, ← further-none q) (runs-none q buf h)
+
+pub in-side : (p : ℕ) → 3 ≤ p → p ≤ 4 → span 3 4 p ≡ true
+unfolding span
+in-side p h k = rw (le-leb 3 p h, le-leb p 4 k)

@@ -24,7 +24,7 @@ use Rattle.text.proofs.Kept.{put-yes, put-no}
 use Rattle.putting.specs.declared.Reader.{Reader}
 use Rattle.putting.specs.declared.Next.{Next}
 use Rattle.putting.specs.declared.Next.the-variants.{Good, Bad}
-use Rattle.putting.specs.Putting.{phaseOf, phaseNext, keptCount, Written, Stands, Able, After, Led, Barred, Onward, leads, stops}
+use Rattle.putting.specs.Putting.{phaseOf, phaseNext, keptCount, Written, Stands, Able, After, Led, Barred, Onward, leads, stops, Going}
 use Rattle.putting.proofs.Writing.{filled-more, join-more}
 
 digits-are : (w n : ℕ) → digits w n ≡ digitsOf w n
@@ -155,17 +155,6 @@ put-cons-none e fs (reader p ns vs s out) h =
       | is-true g ↦ absurd (none-some (sym h ∙ put-one e p ns vs s out g))
       | is-false g ↦ put-no e fs p ns vs s out g
     ]
-
--- of es, which were to be put, fs are left
-pub record Reached (es fs : List Element) (Ns Vs : ℕ → List Key) (r : Told) (q : Reader) (st buf : List ℕ) : Type 0 where
-  pub next : Told
-  pub left : putAll es r ≡ putAll fs next
-  pub stands : Stands Ns Vs q st buf next
-
-pub record Going (es fs : List Element) (q₀ : Reader) (st₀ buf₀ : List ℕ) (q : Reader) (st buf : List ℕ) : Type 0 where
-  pub going : (Ns Vs : ℕ → List Key) → Vs 0 ≡ [] → (r : Told) → Stands Ns Vs q₀ st₀ buf₀ r → Reached es fs Ns Vs r q st buf
-  pub names : q .names ≡ q₀ .names
-  pub variables : (q .variables ≡ q₀ .variables) ⊎ (q .variables ≡ 0)
 
 pub going-from : (es : List Element) (q : Reader) (st buf : List ℕ) → Going es es q st buf q st buf
 going-from es q st buf = record { going = λ Ns Vs z r s. record { next = r; left = refl; stands = s }; names = refl; variables = inl refl }

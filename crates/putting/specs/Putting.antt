@@ -3,8 +3,8 @@ use mathlib.Core.Path.{_≡_}
 use mathlib.Core.Bool.{false, cond}
 use mathlib.Core.Logic.{_⊎_}
 use mathlib.Core.Option.{Option, none, some}
-use mathlib.Core.List.{List, [], _∷_}
-use Prim.Native.Nat.{ℕ, _+_, _-_, _≤_, _<_}
+use mathlib.Core.List.{List, [], _∷_, map}
+use Prim.Native.Nat.{ℕ, _+_, _-_, _*_, _≤_, _<_}
 use lib.ListN.{length, take, drop}
 use lib.Seq.{sets}
 use lib.Dec.{eqb}
@@ -13,7 +13,7 @@ use Rattle.meaning.specs.Goodness.{State as Stage}
 use Rattle.taking.specs.Standing.{Means}
 use Rattle.text.specs.Numbering.{Key}
 use Rattle.text.specs.Tokens.{Token as Meaning, closed, quoted}
-use Rattle.text.specs.Reading.{Phase, free, between, owed, named, inside, Reader as Told, reader, putAll, closing, partOf, signed, putSome, within, heading}
+use Rattle.text.specs.Reading.{Phase, free, between, owed, named, inside, Reader as Told, reader, element, putAll, closing, partOf, signed, putSome, within, heading}
 use Rattle.tokens.specs.declared.Token.{Token}
 use Rattle.tokens.specs.declared.Token.the-variants as T
 use Rattle.tokens.specs.Lexemes.{charactersOf, Proper}
@@ -82,6 +82,17 @@ pub data Onward (f : Told → Option Told) (q : Reader) (st buf : List ℕ) : Ne
   leads : {q′ : Reader} {st′ buf′ : List ℕ} → Led f q st buf q′ st′ buf′ → Onward f q st buf (Good q′) st′ buf′
   stops : {st′ buf′ : List ℕ} → Barred f q st buf → Onward f q st buf Bad st′ buf′
 
+-- of es, which were to be put, fs are left
+pub record Reached (es fs : List Element) (Ns Vs : ℕ → List Key) (r : Told) (q : Reader) (st buf : List ℕ) : Type 0 where
+  pub next : Told
+  pub left : putAll es r ≡ putAll fs next
+  pub stands : Stands Ns Vs q st buf next
+
+pub record Going (es fs : List Element) (q₀ : Reader) (st₀ buf₀ : List ℕ) (q : Reader) (st buf : List ℕ) : Type 0 where
+  pub going : (Ns Vs : ℕ → List Key) → Vs 0 ≡ [] → (r : Told) → Stands Ns Vs q₀ st₀ buf₀ r → Reached es fs Ns Vs r q st buf
+  pub names : q .names ≡ q₀ .names
+  pub variables : (q .variables ≡ q₀ .variables) ⊎ (q .variables ≡ 0)
+
 -- behind a character of a string, whose quote is doubled inside
 unfoldable pub pastCharacter : ℕ → ℕ → ℕ → ℕ
 pastCharacter i b quote = cond (eqb b quote) (i + 2) (i + 1)
@@ -91,6 +102,33 @@ pub record Closes (s : List ℕ) (quote i last : ℕ) : Type 0 where
   pub most : i ≤ last
   pub inside : last < length s
   pub shut : quoted quote false (drop i s) ≡ closed (charactersOf (quoted quote false (drop i s))) (last + 1 - i)
+
+-- the elements of a string's characters from i on
+abbrev pub elementsAt : List ℕ → ℕ → ℕ → List Element
+elementsAt s quote i = map (element 1) (charactersOf (quoted quote false (drop i s)))
+
+-- n characters further
+unfoldable pub furtherBy : Reader → ℕ → Reader
+furtherBy q n =
+    record {
+      phase = q .phase;
+      names = q .names;
+      variables = q .variables;
+      state = record { part = q .state .part; depth = q .state .depth; count = q .state .count + n; set = q .state .set; number = q .state .number };
+      len = q .len + 2 * n;
+    }
+
+-- r characters are left, and a side with c elements and a buffer with len bytes have room for them
+pub record Sure (c len limit bytes left r : ℕ) : Type 0 where
+  pub most : r ≤ left
+  pub side : 0 < r → c + r ≤ limit
+  pub space : 0 < r → len + 2 * r ≤ bytes
+
+-- the characters of a string from i up to j were put
+pub record Runs (s : List ℕ) (quote last i : ℕ) (q : Reader) (buf : List ℕ) (j : ℕ) (q′ : Reader) (buf′ : List ℕ) : Type 0 where
+  pub shut : Closes s quote j last
+  pub going : (es : List Element) (q₀ : Reader) (st₀ buf₀ st : List ℕ) → Able q₀ st₀ buf₀ → Going es (elementsAt s quote i) q₀ st₀ buf₀ q st buf
+      → Going es (elementsAt s quote j) q₀ st₀ buf₀ q′ st buf′
 
 -- what } makes, what a sign makes, and what a token makes: the definition's steps
 abbrev pub braced : Told → Option Told

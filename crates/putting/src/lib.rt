@@ -5,7 +5,7 @@ use tokens::Token;
 ghost use mathlib.Core.Path.{_≡_};
 ghost use mathlib.Core.Bool.{false};
 ghost use mathlib.Core.List.{List, _∷_, [], map};
-ghost use Prim.Native.Nat.{ℕ, _+_, _-_, _^_, _≤_, _<_};
+ghost use Prim.Native.Nat.{ℕ, _+_, _-_, _*_, _^_, _≤_, _<_};
 ghost use lib.ListN.{length, getD, drop};
 ghost use lib.Seq.{sets};
 ghost use Rattle.meaning.specs.Elements.{body};
@@ -14,7 +14,7 @@ ghost use Rattle.taking.specs.Standing.{Leads};
 ghost use Rattle.text.specs.Tokens.{quoted};
 ghost use Rattle.text.specs.Reading.{element, putAll, typeOf, isSign, entering};
 ghost use Rattle.tokens.specs.Lexemes.{charactersOf, tokenOf};
-ghost use Rattle.putting.specs.Putting.{phaseNext, keptCount, Written, Able, Onward, pastCharacter, Closes, braced, signing, makingWithin, makingHeader, Entered, phased};
+ghost use Rattle.putting.specs.Putting.{phaseNext, keptCount, Written, Able, Onward, pastCharacter, Closes, furtherBy, Sure, Runs, braced, signing, makingWithin, makingHeader, Entered, phased};
 
 // Where reading stands: the phase, the names so far, the variables of this sentence, the check, and the bytes so far.
 pub struct Reader {
@@ -133,6 +133,93 @@ fn past_character(i: usize, b: u8, quote: u8) -> usize
     if b == quote { i + 2 } else { i + 1 }
 }
 
+// How much there is from b up to a; none where b is beyond.
+fn rest(a: usize, b: usize) -> usize
+    ensures { λ r. ⌜ r ≡ a - b ⌝ }
+{
+    if b <= a { a - b } else { 0 }
+}
+
+fn least(a: usize, b: usize) -> usize
+    ensures { λ r. ⌜ (r ≤ a) × (r ≤ b) ⌝ }
+{
+    if a <= b { a } else { b }
+}
+
+// So many characters further.
+fn further(reader: Reader, n: usize) -> Reader
+    requires { ⌜ (reader .state .count + n < 2 ^ 64) × (reader .len + 2 * n < 2 ^ 64) ⌝ }
+    ensures { λ r. ⌜ r ≡ furtherBy reader n ⌝ }
+{
+    let state = reader.state;
+    Reader {
+        phase: reader.phase,
+        names: reader.names,
+        variables: reader.variables,
+        state: State {
+            part: state.part,
+            depth: state.depth,
+            count: state.count + n,
+            set: state.set,
+            number: state.number,
+        },
+        len: reader.len + 2 * n,
+    }
+}
+
+// How far characters were put, and where reading stands then.
+struct Run {
+    at: usize,
+    reader: Reader,
+}
+
+// How many characters surely are good: as far as the string, the side and the buffer have room.
+fn sure(reader: Reader, limit: usize, bytes: usize, left: usize) -> usize
+    ensures { λ r. ⌜ Sure (reader .state .count) (reader .len) limit bytes left r ⌝ }
+{
+    let state = reader.state;
+    let side = rest(limit, state.count);
+    let space = rest(bytes, reader.len) / 2;
+    least(left, least(side, space))
+}
+
+// Puts characters that surely are good, up to the next quote.
+fn put_run(text: &[u8], from: usize, last: usize, quote: u8, reader: Reader, buf: &mut [u8]) -> Run
+    requires { ⌜ (length (now text) ≤ 65536) × (length (now buf) ≤ 65536) × Closes (now text) quote from last ⌝ }
+    ensures { λ r. ⌜ (from ≤ r .at) × Runs (now (text .entry)) quote last from reader (now (buf .entry)) (r .at) (r .reader) (now (buf .exit)) ⌝ }
+{
+    let state = reader.state;
+    let none = Run { at: from, reader };
+    if state.part < taking::LEFT {
+        return none;
+    }
+    if taking::RIGHT < state.part {
+        return none;
+    }
+    let n = sure(reader, taking::limit_of(state.part), buf.len(), last - from);
+    if n == 0 {
+        return none;
+    }
+    let mut k: usize = 0;
+    let len = reader.len;
+    while k < n {
+        let b = text[from + k];
+        if b == quote {
+            return Run {
+                at: from + k,
+                reader: further(reader, k),
+            };
+        }
+        buf[len + 2 * k] = kinds::CHARACTER;
+        buf[len + 2 * k + 1] = b;
+        k += 1;
+    }
+    Run {
+        at: from + k,
+        reader: further(reader, k),
+    }
+}
+
 // Puts the characters of a string from `from` up to its closing quote at `last`.
 fn put_characters(
     text: &[u8],
@@ -154,8 +241,9 @@ fn put_characters(
         let Next::Good(next) = put(at, character(b), moves, stack, buf) else {
             return Next::Bad;
         };
-        at = next;
-        i = past_character(i, b, quote);
+        let run = put_run(text, past_character(i, b, quote), last, quote, next, buf);
+        at = run.reader;
+        i = run.at;
     }
     Next::Good(at)
 }

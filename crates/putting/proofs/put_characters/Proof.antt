@@ -3,9 +3,9 @@ use Prim.Native.Nat.{_-_}
 use native.Mathlib.Omega.{arith}
 use lib.ListN.{length, getD}
 use Rattle.meaning.specs.Elements.{body}
-use Rattle.putting.specs.Putting.{Able, Closes, leads, stops}
-use Rattle.putting.proofs.Putting.{Going, going-from, going-able, led, barred}
-use Rattle.putting.proofs.Characters.{elementsAt, past-more, turn, turn-bad, turn-over}
+use Rattle.putting.specs.Putting.{Able, Going, Closes, elementsAt, leads, stops}
+use Rattle.putting.proofs.Putting.{going-from, going-able, led, barred}
+use Rattle.putting.proofs.Characters.{past-more, turn, turn-bad, turn-over}
 use borrow.Author.Needs.{needs}
 use Rattle.putting.proofs.put_characters.Statement.{statement}
 use Rattle.putting.proofs.put_characters.Tie as tie
@@ -75,24 +75,57 @@ past-character-requires c κs =
     let (g, h, a, l, m) = loop .inv in
     omega (arith, h .inside, loop-test .taken, start .pre .2)
 
+put-run-requires : tie.Need-put-run-requires Inv-loop μ-loop
+put-run-requires c κs =
+    let start = c .before .before .before .before .before .before .before .before .before .before .before .before .before .before .before .before .before
+    .before .before in
+    let loop = c .before .before .before .before .before .before .before .before .before .before .before .before .before .before .before .loop in
+    let loop-test = c .before .before .before .before .before .before .before .before .before .before .before .before .before .before .loop-test in
+    let character = c .before .before .before .before .before .before .before .before .before .before .before .before .character in
+    let put = c .before .before .before .before .before .before .before .before .before .put in
+    let next = c .before .before .before .next in
+    let (g, h, a, l, m) = loop .inv in (
+      start .pre .2,
+      omega (arith, put .kept .1 .1 .1 .1 .0, m, a .stands .short),
+      turn g h (loop-test .taken) (c .before .past-character .ensures)
+          (rw (character .ensures .0, character .ensures .1) at (led (put .ensures) (next .given .1))) .1,
+    )
+
 loop-less : tie.Need-loop-less Inv-loop μ-loop
 loop-less c =
     let start = c .before .before .before .before .before .before .before .before .before .before .before .before .before .before .before .before .before
-    .before in
-    let loop = c .before .before .before .before .before .before .before .before .before .before .before .before .before .before .loop in
-    let loop-test = c .before .before .before .before .before .before .before .before .before .before .before .before .before .loop-test in
-    omega (arith, loop-test .taken, c .past-character .ensures, past-more (loop .i) (getD (start .args .text .now) (loop .i) 0) (start .args .quote))
+    .before .before .before .before .before .before in
+    let loop = c .before .before .before .before .before .before .before .before .before .before .before .before .before .before .before .before .before .before
+    .before .loop in
+    let loop-test = c .before .before .before .before .before .before .before .before .before .before .before .before .before .before .before .before .before
+    .before .loop-test in
+    let past-character = c .before .before .before .before .before .past-character in
+    let put-run = c .before .before .before .put-run in
+    omega (
+      arith,
+      loop-test .taken,
+      past-character .ensures,
+      put-run .ensures .0,
+      past-more (loop .i) (getD (start .args .text .now) (loop .i) 0) (start .args .quote),
+    )
 
 loop-again : tie.Need-loop-again Inv-loop μ-loop
 loop-again c =
-    let loop = c .before .before .before .before .before .before .before .before .before .before .before .before .before .before .loop in
-    let loop-test = c .before .before .before .before .before .before .before .before .before .before .before .before .before .loop-test in
-    let character = c .before .before .before .before .before .before .before .before .before .before .before .character in
-    let put = c .before .before .before .before .before .before .before .before .put in
+    let loop = c .before .before .before .before .before .before .before .before .before .before .before .before .before .before .before .before .before .before
+    .before .loop in
+    let loop-test = c .before .before .before .before .before .before .before .before .before .before .before .before .before .before .before .before .before
+    .before .loop-test in
+    let character = c .before .before .before .before .before .before .before .before .before .before .before .before .before .before .before .before .character
+    in
+    let put = c .before .before .before .before .before .before .before .before .before .before .before .before .before .put in
+    let next = c .before .before .before .before .before .before .before .next in
+    let past-character = c .before .before .before .before .before .past-character in
+    let put-run = c .before .before .before .put-run in
     let (g, h, a, l, m) = loop .inv in
-    let t = turn g h (loop-test .taken) (c .past-character .ensures)
-    (rw (character .ensures .0, character .ensures .1) at (led (put .ensures) (c .before .before .next .given .1))) in
-    (t .0, t .1, a, put .kept .1 .1 .1 .0 ∙ l, put .kept .1 .1 .1 .1 .0 ∙ m)
+    let t = turn g h (loop-test .taken) (past-character .ensures) (rw (character .ensures .0, character .ensures .1) at (led (put .ensures) (next .given .1)))
+    in
+    let r = put-run .ensures .1 in
+    (r .going _ _ _ _ _ a (t .0), r .shut, a, put .kept .1 .1 .1 .0 ∙ l, put-run .kept .1 .1 .1 .1 .1 .0 ∙ put .kept .1 .1 .1 .1 .0 ∙ m)
 
 same-length-3 : tie.Need-same-length-3 Inv-loop μ-loop
 same-length-3 c = let (g, h, a, l, m) = c .before .loop .inv in l
@@ -119,6 +152,7 @@ put-characters-spec =
     same-length-2
     returns
     past-character-requires
+    put-run-requires
     loop-less
     loop-again
     same-length-3
