@@ -117,11 +117,6 @@ fn matching(file: i32, left: &mut [u8], arg: &mut [u8]) -> bool {
     true
 }
 
-fn hashed(s: &[u8], after: &[u8]) {
-    casework::hex_word(casework::hash(s));
-    casework::text(after);
-}
-
 // The answer, with hashes of the field buffer and the scratch afterwards.
 fn run(program: &[u8], field: &mut [u8], used: usize, scratch: &mut [u8], budget: u32) {
     let a = machine::run(program, field, used, scratch, budget);
@@ -130,8 +125,8 @@ fn run(program: &[u8], field: &mut [u8], used: usize, scratch: &mut [u8], budget
     casework::decimal(a.steps as u64, b" ");
     casework::decimal(a.used as u64, b" ");
     casework::decimal(a.place as u64, b" ");
-    hashed(field, b" ");
-    hashed(scratch, b"\n");
+    casework::hashed(field, b" ");
+    casework::hashed(scratch, b"\n");
 }
 
 // A part in hex, of a long one its first 16 bytes; a dash where it is empty.
@@ -155,8 +150,8 @@ fn noted<'a>(now: Record, program: &'a [u8], field: &'a [u8], scratch: &[u8]) {
     casework::decimal(now.used as u64, b" ");
     casework::decimal(machine::number(code) as u64, b" ");
     casework::decimal(now.place as u64, b" ");
-    hashed(field, b" ");
-    hashed(scratch, b" ");
+    casework::hashed(field, b" ");
+    casework::hashed(scratch, b" ");
     let answer = Answer {
         code,
         steps: 0,

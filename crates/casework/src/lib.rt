@@ -1,4 +1,4 @@
-// What the case program reads and prints: numbers and bytes off a case file, and lines to standard output.
+// What the case programs read and print: numbers and bytes off a case file, and lines to standard output.
 use libc::STDOUT_FILENO;
 ghost use Prim.Native.Nat.{_≤_, _<_};
 ghost use lib.ListN.{length};
@@ -49,7 +49,7 @@ pub fn fill(file: i32, buf: &mut [u8]) {
 }
 
 // Sets every byte of a buffer.
-fn set_all(s: &mut [u8], byte: u8) {
+pub fn set_all(s: &mut [u8], byte: u8) {
     let mut i = 0;
     while i < s.len() {
         s[i] = byte;
@@ -167,4 +167,10 @@ pub fn hex_word(n: u32) {
     hex_byte((n / 65536 % 256) as u8);
     hex_byte((n / 256 % 256) as u8);
     hex_byte((n % 256) as u8);
+}
+
+// The hash of some bytes, and what stands behind it.
+pub fn hashed(s: &[u8], after: &[u8]) {
+    hex_word(hash(s));
+    text(after);
 }
