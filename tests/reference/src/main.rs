@@ -38,6 +38,7 @@ reference manual                      lists the manual's programs, whose runs ar
 reference expand DIR                  prints what expand prints for DIR/rules.bin and DIR/start.bin
 reference planner DIR                 prints what the planners print for DIR/rules.ref, DIR/rules.bin and DIR/start.bin
 reference bytes FILE.ref... OUT.bin   writes the last text's bytes; the texts share one name list
+reference names FILE.ref OUT.bin      writes the name list of rules
 reference check-brute                 compares the two matchers";
 
 /// A case file and what makes it.
@@ -158,6 +159,16 @@ fn bytes(texts: &[&str], out: &str) -> Result<(), String> {
     Ok(())
 }
 
+/// The name list that reading rules gives.
+fn names(rules: &str, out: &str) -> Result<(), String> {
+    let text = std::fs::read(rules).map_err(|fault| format!("{rules}: {fault}"))?;
+    let answer = text::read_rules(&text, machine::LONGEST, machine::LONGEST);
+    if answer.code != machine::DONE {
+        return Err(format!("{rules}: code {} at {}", answer.code, answer.place));
+    }
+    std::fs::write(out, &answer.list).map_err(|fault| format!("{out}: {fault}"))
+}
+
 /// Writes a set's case files and their print, and says what is in each.
 fn write(directory: &Path, files: &[File]) -> std::io::Result<()> {
     let mut lines = String::new();
@@ -190,6 +201,7 @@ fn act(words: &[&str]) -> Result<(), String> {
             let text = planner::planner(Path::new(directory)).map_err(|fault| format!("{directory}: {fault}"))?;
             print!("{text}");
         }
+        ["names", rules, out] => return names(rules, out),
         ["bytes", ref texts @ .., out] if !texts.is_empty() => return bytes(texts, out),
         _ => return Err(format!("what to do?\n{USAGE}")),
     }
