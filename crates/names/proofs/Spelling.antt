@@ -1,20 +1,19 @@
 -- A name, byte by byte, in its one spelling.
 use mathlib.Core.Path.{_≡_, refl, _∙_}
-use mathlib.Core.Bool.{Bool, true, false, _&&_, cond, false≢true}
-use mathlib.Core.Option.{some}
-use mathlib.Core.List.{List, [], _∷_, map}
+use mathlib.Core.Bool.{Bool, true, false, cond, false≢true}
+use mathlib.Core.List.{List, [], _∷_}
 use Prim.Native.Nat.{ℕ, zero, suc, _+_, _≤_, _<_}
 use native.Mathlib.Omega.{arith}
 use native.Mathlib.Numerals.{add-one}
-use lib.ListN.{length, getD, drop, length-map, List·getD-eq-default}
+use lib.ListN.{length, getD, drop, List·getD-eq-default}
 use lib.Seq.{drop-cons}
 use lib.Dec.{eqb, leb}
 use borrow.Author.Tests.{eq-eqb, ne-eqb, leb-true, leb-false}
 use Rattle.meaning.specs.Goodness.{span}
 use Rattle.meaning.specs.Elements.{same}
-use Rattle.meaning.proofs.Truth.{never, is-true, is-false, see, and-right}
-use Rattle.text.specs.Classes.{classOf, of, isCapital, inName, front, spell}
-use Rattle.text.specs.Tokens.{identifier, tailOf, spelled}
+use Rattle.meaning.proofs.Truth.{is-true, is-false, see}
+use Rattle.text.specs.Classes.{classOf, of, isCapital, inName, spell}
+use Rattle.text.specs.Tokens.{tailOf, spelled}
 use Rattle.classes.specs.Table.{spelling}
 use Rattle.classes.proofs.Runs.{run-yes, run-no, run-past}
 use Rattle.names.specs.Names.{keyAt}
@@ -96,22 +95,6 @@ module _ (s : List ℕ) (i j : ℕ) where
 pub key-is : (s : List ℕ) (a : ℕ) → a < length s → keyAt s a ≡ getD s a 0 ∷ tailOf (drop (a + 1) s)
 unfolding keyAt spelled
 key-is s a l = rw (drop-cons s a 0 l, add-one)
-
--- an identifier is the name that begins where it is read
-pub name-read : (s x : List ℕ) (i : ℕ) → identifier (drop i s) ≡ some x → (keyAt s i ≡ x) × (length x ≤ 15)
-unfolding identifier keyAt spelled tailOf
-name-read s x i = go (drop i s)
-  where
-    go : (bs : List ℕ) → identifier bs ≡ some x → (spelled bs ≡ x) × (length x ≤ 15)
-    go [] h = never (cc)
-    go (b ∷ bs) h =
-        elim (see (isCapital b && leb (length (front inName bs)) 14)) [
-          | is-true g ↦
-              let e : b ∷ map spell (front inName bs) ≡ x = (let f = rw g at h in cc) in
-              let l : length (front inName bs) ≤ 14 = leb-true _ _ (and-right (isCapital b) _ g) in
-              (e, rw (← e) (omega (arith, length-map (front inName bs) spell)))
-          | is-false g ↦ (let f = rw g at h in never (cc))
-        ]
 
 module _ (s : List ℕ) (a b : ℕ) (la : a < length s) (lb : b < length s) where
   pub first-differs : (getD s a 0 ≡ getD s b 0 → ⊥) → false ≡ same (keyAt s a) (keyAt s b)

@@ -2,12 +2,15 @@
 // A Rattle program has no exit status of its own: what fails is told by a line on standard error, and by no numbers.
 mod pointing;
 mod storing;
+mod wording;
 
 use libc::STDOUT_FILENO;
 use reading::Answer;
 use reading::Code;
+ghost use mathlib.Core.Path.{_≡_};
 ghost use Prim.Native.Nat.{_≤_};
 ghost use lib.ListN.{length};
+ghost use Rattle.reading.specs.Answers.{codeOf};
 
 // How much of a file was read, and whether that is all that a buffer can take of it.
 struct Loaded {
@@ -72,20 +75,18 @@ fn refuse(code: Code, words: &[u8]) {
     io::write_all(STDOUT_FILENO, words);
 }
 
-// The place is looked at again, since no theorem says yet that it lies in the text.
-fn point_out(text: &[u8], place: usize) {
+fn point_out(text: &[u8], place: usize)
+    requires { ⌜ length (now text) ≤ 65536 ⌝ }
+    requires { ⌜ place ≤ length (now text) ⌝ }
+{
     numbers(Code::BadText, 0, 0, place);
-    if place <= 65536 {
-        if place <= text.len() {
-            pointing::point_out(b"rules.ref", text, place);
-        }
-    }
+    pointing::point_out(b"rules.ref", text, place);
 }
 
-// Reading, with what its answer means for a caller: program and list lie within their buffers.
+// Reading, with what its answer means for a caller: program and list lie within their buffers, and a bad place in a text that is not too long.
 fn read_into(text: &[u8], program: &mut [u8], list: &mut [u8]) -> Answer
-    ensures { λ r. ⌜ r .program ≤ length (now (program .exit)) ⌝ }
-    ensures { λ r. ⌜ r .names ≤ length (now (list .exit)) ⌝ }
+    ensures { λ r. ⌜ (r .program ≤ length (now (program .exit))) × (r .names ≤ length (now (list .exit))) ⌝ }
+    ensures { λ r. ⌜ (r .place ≤ length (now (text .entry))) × (codeOf (r .code) ≡ 8 → length (now (text .entry)) ≤ 65536) ⌝ }
 {
     reading::read(text, program, list)
 }

@@ -1,5 +1,6 @@
 // A place of a text pointed out, as compilers do.
 use crate::number;
+use crate::wording;
 use libc::STDOUT_FILENO;
 ghost use Prim.Native.Nat.{_+_, _<_, _≤_};
 ghost use lib.ListN.{length};
@@ -155,7 +156,7 @@ fn show_line(text: &[u8], start: usize, place: usize)
 
 // The file, line and column of a place, what is wrong there, and the line.
 pub fn point_out(file: &[u8], text: &[u8], place: usize)
-    requires { ⌜ place ≤ 65536 ⌝ }
+    requires { ⌜ length (now text) ≤ 65536 ⌝ }
     requires { ⌜ place ≤ length (now text) ⌝ }
 {
     let line = line_of(text, place);
@@ -164,10 +165,6 @@ pub fn point_out(file: &[u8], text: &[u8], place: usize)
     io::write_all(STDOUT_FILENO, b":");
     number(line.number, b":");
     number(place - start + 1, b": ");
-    if place == text.len() {
-        io::write_all(STDOUT_FILENO, b"the text ends early\n");
-    } else {
-        io::write_all(STDOUT_FILENO, b"bad token\n");
-    }
+    wording::explain(text, place);
     show_line(text, start, place);
 }

@@ -53,7 +53,7 @@ isDigit = of 6 6
 abbrev pub inName : ℕ → Bool
 inName = of 3 7
 
--- "The end of a line", document 003: what closes a star's comment and leaves a string unclosed
+-- what ends a line: it closes a star's comment, and leaves a string "not closed on its line"
 abbrev pub endsLine : ℕ → Bool
 endsLine = of 12 12
 

@@ -15,7 +15,8 @@ same-length-2 c = search needs
 returns : tie.Need-returns
 returns c =
     let read = c .before .before .before .before .read in
-    read-within _ _ _ _ _ _ _ _ _ (read .ensures)
+    let (p, n, i, sized) = read-within _ _ _ _ _ _ _ _ _ (read .ensures) in
+    ((p, n), (i, sized))
 
 pub read-into-spec : {M : Type 1} → statement M
 read-into-spec = tie.close (tie.spec read-requires same-length same-length-2 returns)
