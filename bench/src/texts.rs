@@ -71,9 +71,9 @@ fn few_names(number: usize) -> String {
     lines[number % 3].to_owned()
 }
 
-/// Two new names a sentence, some 4,000 in the longest text.
+/// Two new names a sentence, 4,095 in the longest text.
 fn many_names(number: usize) -> String {
-    format!("  Column{number:04} e.X = Value{number:04} e.X;\n")
+    format!("Column{number:04} e.X = Value{number:04} e.X;\n")
 }
 
 /// As many, but all in one bucket of our index, which mixes by 31 and has 8,192: the worst that a text can do to it.
