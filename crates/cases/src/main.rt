@@ -1,4 +1,5 @@
 // Runs the case files of data/, and prints what each case gives.
+#![tactic(auto)]
 ghost use Rattle.desk.specs.Calling.{Called};
 
 use casework::Word;

@@ -1,4 +1,5 @@
 // What the case programs read and print: numbers and bytes off a case file, and lines to standard output.
+#![tactic(auto)]
 ghost use Rattle.std.specs.Prelude.{◌≤◌, ◌<◌, length};
 
 use libc::STDOUT_FILENO;

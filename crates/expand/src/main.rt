@@ -1,4 +1,5 @@
 // Expands start.bin by rules.bin, and prints the answer and the field.
+#![tactic(auto)]
 ghost use Rattle.std.specs.Prelude.{◌+◌, ◌*◌, ◌≤◌, length};
 ghost use Rattle.expand.specs.Loading.{Within};
 

@@ -47,7 +47,7 @@ pub record Standing (value : List ℕ) (last : Bool) (arg : List ℕ) (i : ℕ) 
   pub front : drop i arg ≡ value ++ rest
   pub ends : last ≡ true → rest ≡ []
 
--- with the value v of the e_variable in the slot `own` the search goes through from k on
+-- with the value v of the e-variable in the slot `own` the search goes through from k on
 pub record Through (left : List ℕ) (j : ℕ) (arg b : List ℕ) (m own k : ℕ) (v : List (List ℕ)) : Type 0 where
   pub n : ℕ
   pub terms : Terms n v

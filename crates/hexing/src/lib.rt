@@ -1,4 +1,5 @@
 // Bytes as digits.
+#![tactic(auto)]
 ghost use Rattle.std.specs.Prelude.{◌≡◌, ◌<◌, length};
 
 fn digit(d: u8) -> u8

@@ -1,4 +1,4 @@
--- Matching goes on: one element of the left side after the other, one length of an e_variable after the other.
+-- Matching goes on: one element of the left side after the other, one length of an e-variable after the other.
 use mathlib.Core.Path.{◌≡◌, refl, sym, ◌∙◌, ap}
 use mathlib.Core.Bool.{Bool, true, false}
 use mathlib.Core.Option.{none, some}
@@ -113,7 +113,7 @@ module _ {left : List ℕ} {i : ℕ} {arg : List ℕ} {at : ℕ} {b₀ : List �
     pub single_here : (FreshE slot m → ⊥) → Single left here next slot arg place b m
     single_here f = record { e = x.e; ready = g.ready; split = x.split; slotted = x.slotted; only = f }
 
-    -- an e_variable without a value: its lengths are tried
+    -- an e-variable without a value: its lengths are tried
     module _ (f : FreshE slot m) where
       record Fresh : Type 0 where
         n : ℕ

@@ -31,7 +31,7 @@ terms_more {n = n} stop t = rw (zero-add n) t
 terms_more {n = n} (symbol {n = k} h r) t = rw (suc-add k n) (symbol h (terms_more r t))
 terms_more {n = n} {u = u} (bracket {n = k} {xs} {es} {zs} q r e) t = rw (suc-add k n) (bracket {zs = zs ++ u} q (terms_more r t) (rw e (append_assoc xs ((5 ∷ []) ∷ es) u)))
 
--- the e_variable of a slot
+-- the e-variable of a slot
 pub e_variable : {slot m : ℕ} → FreshE slot m → Variable 10 (slot - 32)
 e_variable f = let a = f.low in let b = f.high in record { low = omega arith; high = omega arith; small = omega arith }
 

@@ -51,7 +51,7 @@ pub demand_1_only : (p f : List ℕ) (used : ℕ) (s : List ℕ) (budget : ℕ) 
 demand_1_only p f used s budget l = only_lawful p f used s budget l
 
 -- DEMAND 2. "Each step is the step of Turchin's Refal-5 manual. A left side fails exactly if no assignment to its variables makes it equal the
--- argument. Otherwise the assignment used is the one whose leftmost e_variable is shortest, then the next, and so on."
+-- argument. Otherwise the assignment used is the one whose leftmost e-variable is shortest, then the next, and so on."
 
 -- a left side fails exactly if no assignment fits
 pub demand_2_fails : (side arg : List Element) → (seek side arg free ≡ none) ↔ ((a : Assignment) → Fits a side arg → ⊥)

@@ -439,6 +439,7 @@ module _ (a : Assignment) (ps : List Element) (p : Element) (env : Env) (sure : 
   first_of_first : {ws : List Way} → Each (Good env p xs) ws → Pos p (a p) r ws
       → (env' : Env) × (first_of (seek ps) p env ws ≡ some env') × NoLater (given env') a (p ∷ ps)
   unfolding first_of Extends Sure
+  first_of_first none_left w = elim w [ ]
   first_of_first (one_more {v} {r = s} g t) (here w) =
       let (env', q, n) = found in
       let ev : v ≡ a p = cc in
@@ -472,6 +473,7 @@ fit_put end = refl
 fit_put (next h q f) = rw (fit_put f) (sym q)
 
 fit_each : {a : Assignment} {side arg : List Element} → Fit a side arg → (p : Element) → Memᴰ p side → Stands (role p) p (a p)
+fit_each {a = a} end p m = elim m [ ]
 fit_each (next h q f) p (Memᴰ.head e) = rw e h
 fit_each (next h q f) p (Memᴰ.tail m) = fit_each f p m
 
@@ -548,7 +550,7 @@ append_cancel : (v r s : List Element) → v ++ r ≡ v ++ s → r ≡ s
 append_cancel [] r s e = e
 append_cancel (x ∷ v) r s e = append_cancel v r s (cc)
 
--- equal numbers of terms at an e_variable, equal fronts
+-- equal numbers of terms at an e-variable, equal fronts
 same-front : (t : Role) (p : Element) (u v r s : List Element) → role p ≡ t → Stands t p u → Stands t p v → u ++ r ≡ v ++ s
     → (role p ≡ e_var → (n : ℕ) × Terms n u × Terms n v) → u ≡ v
 same-front s_var p u v r s k (x, h, q) (y, h', q') e f = (let z : (x ∷ []) ++ r ≡ (y ∷ []) ++ s = rw (q, q') at e in cc)
@@ -557,6 +559,7 @@ same-front e_var p u v r s k h h' e f = (let (n, a, b) = f k in run-front r s a 
 same-front plain p u v r s k h h' e f = cc
 
 both : (a b : Assignment) (ps xs ys : List Element) → xs ≡ ys → Fit a ps xs → Fit b ps ys → NoLater a b ps → NoLater b a ps → (p : Element) → Memᴰ p ps → a p ≡ b p
+both a b [] xs ys e _ _ _ _ p m = elim m [ ]
 both a b (q ∷ ps) xs ys e (next {r} h w f) (next {r = s} h' w' f') (fewer k ra rb l) (fewer k' rb' ra' l') p m =
     never (let i = run_one ra ra' in let j = run_one rb rb' in omega arith)
 both a b (q ∷ ps) xs ys e (next {r} h w f) (next {r = s} h' w' f') (fewer k ra rb l) (alike g n) p m =

@@ -84,7 +84,7 @@ module _ (k : List Element → Env → Option Env) (p : Element) (env : Env) whe
   unfolding or_else
   tries_next y e = rw e
 
--- an e_variable that is last takes what is left
+-- an e-variable that is last takes what is left
 pub last_takes_all : (p : Element) (env : Env) (v : List Element) {n : ℕ} {xs : List Element} → Terms n xs
     → tries (seek []) p env v xs ≡ some (keep (role p) p (v ++ xs) env)
 unfolding seek or_else

@@ -57,6 +57,6 @@ is_kind k e = eqb (kind e) k
 unfoldable pub is_symbol : Element → Bool
 is_symbol e = leb 1 (kind e) && leb (kind e) 3
 
--- 08, 09, 0A: "s-, t-, e_variable"
+-- 08, 09, 0A: "s-, t-, e-variable"
 unfoldable pub is_variable : Element → Bool
 is_variable e = leb 8 (kind e) && leb (kind e) 10

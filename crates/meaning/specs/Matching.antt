@@ -16,11 +16,11 @@ pub data Terms : ℕ → List Element → Type 0 where
 pub data Role : Type 0 where
   s_var t_var e_var plain : Role
 
--- 08, 09, 0A: "s-, t-, e_variable"
+-- 08, 09, 0A: "s-, t-, e-variable"
 unfoldable pub role : Element → Role
 role e = cond (is_kind 8 e) s_var (cond (is_kind 9 e) t_var (cond (is_kind 10 e) e_var plain))
 
--- "An s-variable stands for one symbol, a t-variable for one term, an e_variable for any run of terms, also none"; any other element for itself
+-- "An s-variable stands for one symbol, a t-variable for one term, an e-variable for any run of terms, also none"; any other element for itself
 abbrev pub Stands : Role → Element → List Element → Type 0
 Stands s_var p v = (e : Element) × T (is_symbol e) × (v ≡ e ∷ [])
 Stands t_var p v = Terms 1 v

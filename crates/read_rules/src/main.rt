@@ -1,5 +1,6 @@
 // Reads rules.ref, and writes its program to rules.bin and its name list to names.bin; a bad place is pointed out.
 // A Rattle program has no exit status of its own: what fails is told by a line on standard error, and by no numbers.
+#![tactic(auto)]
 mod pointing;
 mod storing;
 mod wording;

@@ -1,4 +1,5 @@
 // Reads the texts of data/, and prints what each of them gives.
+#![tactic(auto)]
 use casework::Word;
 
 // The answer, with hashes of the program buffer and the list buffer afterwards.

@@ -63,7 +63,7 @@ pub data ValueEnd (v : List (List ℕ)) (arg : List ℕ) (at : ℕ) : Found → 
   stands_at : {t : ℕ} → Splits arg at v t → ValueEnd v arg at (At t)
   differs : ((r : List (List ℕ)) → elements (drop at arg) ≡ v ++ r → ⊥) → ValueEnd v arg at Nothing
 
--- an e_variable without a value
+-- an e-variable without a value
 pub record FreshE (slot m : ℕ) : Type 0 where
   pub low : 32 ≤ slot
   pub high : slot < 48
@@ -91,7 +91,7 @@ pub record Part (s : List ℕ) (i j : ℕ) : Type 0 where
   pub fits : j ≤ length s
   pub proper : Proper (elements (take (j - i) (drop i s)))
 
--- the element left[i..j], and its slot; it is no e_variable without a value
+-- the element left[i..j], and its slot; it is no e-variable without a value
 pub record Single (left : List ℕ) (i j slot : ℕ) (arg : List ℕ) (at : ℕ) (b : List ℕ) (m : ℕ) : Type 0 where
   pub e : List ℕ
   pub ready : Ready left i arg at b m

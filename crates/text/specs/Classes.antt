@@ -39,7 +39,7 @@ is_capital = of 3 3
 abbrev pub is_letter : ℕ → Bool
 is_letter = of 3 5
 
--- "s-, t-, e_variable"
+-- "s-, t-, e-variable"
 abbrev pub is_type : ℕ → Bool
 is_type = of 5 5
 

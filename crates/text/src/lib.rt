@@ -1,1 +1,2 @@
 // The meaning of rules as text: definitions in specs/, theorems in proofs/, no code.
+#![tactic(auto)]
