@@ -9,7 +9,7 @@ ghost use Rattle.scanning.specs.State.{is_call};
 ghost use Rattle.building.specs.Build.{side_of, piece, pour, Ready, Known, span_of, spans, calls_of, placed, Given, Spanned, Pivot, Measured, Pivoted, Parted};
 
 // What a right side will be: whether it fits, its length, its call brackets, and where the longest of its values stands in the program.
-#[derive(Drop)]
+#[derive(Clone, Copy)]
 pub struct Extent {
     pub fits: bool,
     pub size: usize,
@@ -18,14 +18,14 @@ pub struct Extent {
 }
 
 // The longest value so far, and its place.
-#[derive(Drop)]
+#[derive(Clone, Copy)]
 pub struct Longest {
     pub span: usize,
     pub at: usize,
 }
 
 // The value at the pivot, as a part of the argument; and where the side goes on behind it.
-#[derive(Drop)]
+#[derive(Clone, Copy)]
 pub struct Part {
     pub from: usize,
     pub to: usize,
@@ -205,7 +205,7 @@ fn pivot_part(program: &[u8], pivot: usize, to: usize, binds: &[usize]) -> Part
 }
 
 // How much of the scratch is built: up to the pivot, and in all.
-#[derive(Drop)]
+#[derive(Clone, Copy)]
 pub struct Filled {
     pub n: usize,
     pub m: usize,

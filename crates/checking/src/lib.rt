@@ -11,14 +11,14 @@ use elements::{Cursor, Element, Reading};
 use taking::{State, Taken};
 
 // What the check finds: nothing bad, or the place of the first bad element.
-#[derive(Drop)]
+#[derive(Clone, Copy)]
 pub enum Check {
     Good,
     Bad(usize),
 }
 
 // How far reading came, and where it stands there.
-#[derive(Drop)]
+#[derive(Clone, Copy)]
 struct Reached {
     at: Cursor,
     state: State,

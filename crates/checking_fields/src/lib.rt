@@ -9,7 +9,7 @@ ghost use Rattle.checking_fields.specs.Fields.{Closed, Turned};
 use elements::{Cursor, Element, Reading};
 
 // What the check finds: nothing bad; the place of the first bad element; or that the scratch is shorter than the field.
-#[derive(Drop)]
+#[derive(Clone, Copy)]
 pub enum FieldCheck {
     Good,
     Bad(usize),
@@ -17,7 +17,7 @@ pub enum FieldCheck {
 }
 
 // What an element does to the open brackets: so many are open behind it; or it is bad.
-#[derive(Drop)]
+#[derive(Clone, Copy)]
 enum Behind {
     Depth(usize),
     Fault,

@@ -12,7 +12,7 @@ ghost use Rattle.choosing.specs.Choose.{rest_of, sentences, Program, Looked, slo
 use elements::Cursor;
 
 // Where a function's body begins, if there is such a function.
-#[derive(Drop)]
+#[derive(Clone, Copy)]
 pub enum Spot {
     At(Cursor),
     Nowhere,
@@ -74,7 +74,7 @@ pub fn find(program: &[u8], lo: u8, hi: u8) -> Spot
 }
 
 // Where the right side begins and ends, if a sentence was found.
-#[derive(Drop)]
+#[derive(Clone, Copy)]
 pub struct Choice {
     pub found: bool,
     pub from: usize,

@@ -8,7 +8,7 @@ ghost use Rattle.desk.specs.Calling.{Called};
 use machine::{Answer, Code};
 
 // The used length, the last code and the last place.
-#[derive(Drop)]
+#[derive(Clone, Copy)]
 pub struct Record {
     pub used: usize,
     pub code: Code,

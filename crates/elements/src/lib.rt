@@ -6,7 +6,7 @@ ghost use Rattle.elements.specs.Bytes.{kind_of, number_of, digits, bytes_of, Tol
 ghost use Rattle.elements.specs.Reading.{ReadAt, Proper, NumberedAt, PassedOver, Level, depth_after, Characters, Shutting, Shut, SymbolEnd, TermEnd, ProperAt, Shared, Comparing};
 
 // An element: fifteen kinds, with the number in the body where there is one.
-#[derive(Drop)]
+#[derive(Clone, Copy)]
 pub enum Element {
     Character(u32),
     Name(u32),
@@ -26,27 +26,27 @@ pub enum Element {
 }
 
 // A place between elements.
-#[derive(Drop)]
+#[derive(Clone, Copy)]
 pub struct Cursor {
     pub at: usize,
 }
 
 // An element passed over: its kind, and the moved cursor.
-#[derive(Drop)]
+#[derive(Clone, Copy)]
 pub struct Passed {
     pub kind: u8,
     pub next: Cursor,
 }
 
 // An element of a known kind: the number in its body, and the moved cursor.
-#[derive(Drop)]
+#[derive(Clone, Copy)]
 pub struct Numbered {
     pub number: u32,
     pub next: Cursor,
 }
 
 // What a cursor reads: an element and the moved cursor; a kind that is unknown; a body that is cut short; or that nothing is left.
-#[derive(Drop)]
+#[derive(Clone, Copy)]
 pub enum Reading {
     Got(Element, Cursor),
     Unknown,
@@ -54,7 +54,7 @@ pub enum Reading {
     End,
 }
 
-#[derive(Drop)]
+#[derive(Clone, Copy)]
 pub enum Found {
     At(usize),
     Nothing,

@@ -10,7 +10,7 @@ use elements::{Cursor, Found};
 
 // Where an e-variable's value can end: between two places, and where a `first` is known only before an element of that kind, with `second` and
 // `third` as the bytes behind its kind if they are known too. A `first` of 0, a `second` and a `third` of 256 are not known.
-#[derive(Drop)]
+#[derive(Clone, Copy)]
 pub struct Ahead {
     first: u8,
     second: u16,

@@ -9,7 +9,7 @@ use checking::Check;
 use checking_fields::FieldCheck;
 
 // Why a run came to its end.
-#[derive(Drop)]
+#[derive(Clone, Copy)]
 pub enum Code {
     Done,
     Paused,
@@ -21,7 +21,7 @@ pub enum Code {
     BadField,
 }
 
-#[derive(Drop)]
+#[derive(Clone, Copy)]
 pub struct Answer {
     pub code: Code,
     pub steps: u32,

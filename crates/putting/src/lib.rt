@@ -15,7 +15,7 @@ use taking::State;
 use tokens::Token;
 
 // Where reading stands: the phase, the names so far, the variables of this sentence, the check, and the bytes so far.
-#[derive(Drop)]
+#[derive(Clone, Copy)]
 pub struct Reader {
     pub phase: usize,
     pub names: usize,
@@ -25,7 +25,7 @@ pub struct Reader {
 }
 
 // Where reading stands behind what was put, if that is good.
-#[derive(Drop)]
+#[derive(Clone, Copy)]
 pub enum Next {
     Good(Reader),
     Bad,
@@ -168,7 +168,7 @@ fn further(reader: Reader, n: usize) -> Reader
 }
 
 // How far characters were put, and where reading stands then.
-#[derive(Drop)]
+#[derive(Clone, Copy)]
 struct Run {
     at: usize,
     reader: Reader,

@@ -23,7 +23,7 @@ use tokens::Token;
 const LONGEST: usize = 65536;
 
 // Why a reading came to its end.
-#[derive(Drop)]
+#[derive(Clone, Copy)]
 pub enum Code {
     Read,
     NoRoom,
@@ -32,7 +32,7 @@ pub enum Code {
 }
 
 // The code, the bytes of program and list, and a place in the text.
-#[derive(Drop)]
+#[derive(Clone, Copy)]
 pub struct Answer {
     pub code: Code,
     pub program: usize,
@@ -53,14 +53,14 @@ pub fn number(code: Code) -> u8
 }
 
 // What a text says: so many names, and so many bytes in the buffer; or the place where it is bad.
-#[derive(Drop)]
+#[derive(Clone, Copy)]
 enum Said {
     Says(usize, usize),
     Amiss(usize),
 }
 
 // The number of a token's name or variable, and the reader that has met it.
-#[derive(Drop)]
+#[derive(Clone, Copy)]
 struct Met {
     number: u32,
     reader: Reader,

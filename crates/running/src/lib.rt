@@ -10,7 +10,7 @@ ghost use Rattle.running.specs.Running.{Checked, Ready, Halted};
 use scanning::Spread;
 
 // Where the steps came to a halt, and why; the field is field[..lo] and field[hi..].
-#[derive(Drop)]
+#[derive(Clone, Copy)]
 struct Halt {
     code: u8,
     steps: u32,
@@ -20,7 +20,7 @@ struct Halt {
 }
 
 // How a run came to its end, the code as a number.
-#[derive(Drop)]
+#[derive(Clone, Copy)]
 pub struct Ending {
     pub code: u8,
     pub steps: u32,

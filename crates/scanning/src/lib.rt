@@ -9,7 +9,7 @@ use elements::Cursor;
 
 // What is before the gap is field[..lo], what is behind it field[hi..]. The open calls before the gap are noted in calls[..depth], the call
 // brackets behind it, up to `read`, in calls[top..], each by its place.
-#[derive(Drop)]
+#[derive(Clone, Copy)]
 pub struct Spread {
     pub lo: usize,
     pub hi: usize,
@@ -19,7 +19,7 @@ pub struct Spread {
 }
 
 // The next call bracket behind the gap, taken off the notes.
-#[derive(Drop)]
+#[derive(Clone, Copy)]
 pub struct Mark {
     pub here: bool,
     pub at: usize,

@@ -13,14 +13,14 @@ use elements::Cursor;
 use scanning::Spread;
 
 // The leading term: its < stands last before the gap, at `from`, and its argument behind it, from `hi` on.
-#[derive(Drop)]
+#[derive(Clone, Copy)]
 pub struct Lead {
     pub from: usize,
     pub hi: usize,
 }
 
 // What became of a step; where the field goes on behind the gap, and where its notes begin.
-#[derive(Drop)]
+#[derive(Clone, Copy)]
 pub struct Outcome {
     pub code: u8,
     pub hi: usize,

@@ -11,7 +11,7 @@ use elements::Element;
 
 // Where reading stands: the part, the open brackets, the elements of this side so far, and the left side's variables, as a set and their number.
 // Each is a whole word: with a byte among them the compiler copies the state piece by piece, and a check takes seven times as long.
-#[derive(Drop)]
+#[derive(Clone, Copy)]
 pub struct State {
     pub part: usize,
     pub depth: usize,
@@ -21,7 +21,7 @@ pub struct State {
 }
 
 // The number of the first test that an element fails, or 0; and where reading stands after it.
-#[derive(Drop)]
+#[derive(Clone, Copy)]
 pub struct Taken {
     pub fault: u8,
     pub next: State,

@@ -8,7 +8,7 @@ ghost use Rattle.classes.specs.Table.{Classes};
 ghost use Rattle.tokens.specs.Lexemes.{length_of, closed_at, past_at, capped, Sums, column_at, number_at, starred_at, Trimmed, dotted_at, lex_at, Tells};
 
 // A token. A name's identifier begins at the token's place, a call's one byte behind it; a string's characters begin there, too.
-#[derive(Drop)]
+#[derive(Clone, Copy)]
 pub enum Token {
     Gap,
     Malformed,
@@ -22,13 +22,13 @@ pub enum Token {
 }
 
 // A token, and the place behind it.
-#[derive(Drop)]
+#[derive(Clone, Copy)]
 pub struct Lexeme {
     pub token: Token,
     pub end: usize,
 }
 
-#[derive(Drop)]
+#[derive(Clone, Copy)]
 enum Found {
     At(usize),
     Nothing,
@@ -79,7 +79,7 @@ fn call(classes: &[u8; 256], s: &[u8], at: usize) -> Lexeme
 }
 
 // Where a string ends, past its closing quote, and how many characters it has.
-#[derive(Drop)]
+#[derive(Clone, Copy)]
 enum Quoted {
     Closed(usize, usize),
     Open,
@@ -155,7 +155,7 @@ fn add_digit(v: u64, b: u8) -> u64
 }
 
 // Where digits end, and their value.
-#[derive(Drop)]
+#[derive(Clone, Copy)]
 struct Sum {
     end: usize,
     value: u64,

@@ -6,7 +6,7 @@ ghost use Rattle.classes.specs.Table.{Classes, part};
 ghost use Rattle.variables.specs.Variables.{keys_of, Inside, Found, Added, Numbered};
 
 // A variable's number, and how many variables there are then.
-#[derive(Drop)]
+#[derive(Clone, Copy)]
 pub struct Variable {
     pub number: usize,
     pub count: usize,

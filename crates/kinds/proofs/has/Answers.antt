@@ -1,0 +1,8 @@
+use mathlib.Core.Path.{refl}
+use borrow.Author.Rules.{rules}
+use Rattle.kinds.specs.Slots.{within}
+use Rattle.kinds.proofs.has.Goals as goal
+
+pub returns : goal.returns
+unfolding within
+returns c = refl

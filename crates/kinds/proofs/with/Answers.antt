@@ -1,0 +1,8 @@
+use borrow.Author.Rules.{rules}
+use Rattle.kinds.specs.Slots.{joined}
+use Rattle.kinds.proofs.Sets.{one_shifted}
+use Rattle.kinds.proofs.with.Goals as goal
+
+pub returns : goal.returns
+unfolding joined
+returns c = rw (one_shifted _ c.requires)

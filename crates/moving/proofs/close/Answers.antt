@@ -1,0 +1,8 @@
+use mathlib.Core.Path.{refl}
+use Rattle.moving.proofs.Moves.{closed}
+use borrow.Author.Rules.{rules}
+use Rattle.moving.proofs.close.Goals as goal
+
+pub returns : goal.returns
+returns c =
+    (refl, closed _ c.move_down.new.s _ _ c.requires.lo_le_hi c.requires.hi_in_bounds c.move_down.ensures c.clear.ensures)
