@@ -1,0 +1,13 @@
+use mathlib.Core.Path.{◌≡◌, refl, sym, ◌∙◌}
+use Prim.Native.Nat.{◌+◌, ◌-◌}
+use lib.ListN.{length, drop}
+use Rattle.text.specs.Classes.{of, front}
+use Rattle.classes.proofs.Runs.{of_yes, of_low, of_high, run_on, run_stop, run_out}
+use borrow.Author.Rules.{rules}
+use Rattle.classes.proofs.run_end.Given as goal
+
+abbrev pub invariant-loop-i : goal.invariant-loop-i
+invariant-loop-i l = l.i + length (front (of l.lo l.hi) (drop l.i l.s)) ≡ l.from + length (front (of l.lo l.hi) (drop l.from l.s))
+
+abbrev pub decreases-loop-i : goal.decreases-loop-i
+decreases-loop-i l = length l.s - l.i
