@@ -21,12 +21,6 @@ use Rattle.taking.proofs.Parts.{by_part, on_right_lem, limit_is, sided_is, numbe
 pub told : {r b v : Bool} → r ≡ b → r ≡ v → b ≡ v
 told e h = sym e ∙ h
 
-pub denied : {r b : Bool} → r ≡ b → not r ≡ true → b ≡ false
-denied {r} e h = told e (not-true r h)
-
-pub granted : {r b : Bool} → r ≡ b → not r ≡ false → b ≡ true
-granted {r} e h = told e (not-false r h)
-
 -- ---- the first that fails
 pub fails : (n : ℕ) {b : Bool} (bs : List Bool) → b ≡ false → n ≡ first_failing n (b ∷ bs)
 unfolding first_failing

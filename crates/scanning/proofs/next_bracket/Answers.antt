@@ -1,0 +1,33 @@
+use mathlib.Core.Path.{refl, sym, ◌∙◌}
+use Prim.Native.Nat.{◌-◌}
+use native.Mathlib.Omega.{arith}
+use lib.ListN.{length}
+use borrow.Author.Rules.{rules}
+use Rattle.elements.proofs.Levels.{characters_on}
+use Rattle.scanning.proofs.Scan.{Seeking, here_open, here_close, seek_next, seek_on, seek_end}
+use Rattle.scanning.proofs.next_bracket.Goals as goal
+
+pub loop-c-init : goal.loop-c-init
+loop-c-init c = record { upto = c.requires.at_in_bounds; whole = c.requires.whole; so = refl }
+
+pub returns-then-passed-eq-CALL : goal.returns-then-passed-eq-CALL
+returns-then-passed-eq-CALL c =
+    here_open _ _ _ c.loop-c.invariant c.loop-c-test.true (sym c.pass-passed.ensures.kind_is ∙ c.if-passed-eq-CALL.true)
+
+pub returns-then-passed-eq-RETURN : goal.returns-then-passed-eq-RETURN
+returns-then-passed-eq-RETURN c =
+    here_close _ _ _ c.loop-c.invariant c.loop-c-test.true (sym c.pass-passed.ensures.kind_is ∙ c.if-passed-eq-RETURN.true)
+
+pub loop-c-smaller : goal.loop-c-smaller
+loop-c-smaller c =
+    omega (arith, characters_on c.past_characters-c.ensures, c.loop-c-test.true, c.pass-passed.ensures.next_is)
+
+pub loop-c-preserved : goal.loop-c-preserved
+loop-c-preserved c =
+    let k = c.pass-passed.ensures.kind_is in
+    let n = seek_next _ _ _ c.loop-c.invariant c.loop-c-test.true (λ z. c.if-passed-eq-CALL.false (k ∙ z))
+    (λ z. c.if-passed-eq-RETURN.false (k ∙ z)) _ refl in
+    seek_on (omega arith) (rw (← c.pass-passed.ensures.next_is) at n) c.past_characters-c.ensures
+
+pub returns : goal.returns
+returns c = seek_end _ _ _ c.loop-c.invariant c.loop-c-test.false

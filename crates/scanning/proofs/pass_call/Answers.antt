@@ -1,0 +1,29 @@
+use native.Mathlib.Omega.{arith}
+use Rattle.scanning.proofs.Scan.{may_move, may_note, in_notes, open_same, open_more, open_good, open_standing}
+use mathlib.Core.Path.{refl}
+use borrow.Author.Rules.{rules}
+use Rattle.scanning.proofs.pass_call.Goals as goal
+
+pub move_down-requires : goal.move_down-requires
+move_down-requires c = let both = may_move _ _ _ _ _ _ _ _ c.requires.good c.requires.reached.0 c.requires.reached.1 in record { at_le_from = both.0; n_in_bounds = both.1 }
+
+pub overflow_cast-calls : goal.overflow_cast-calls
+overflow_cast-calls c =
+    let k = may_note _ _ _ _ _ _ _ _ c.requires.good c.requires.reached.0 c.requires.reached.1 c.requires.field_len_bound.0 in
+    omega arith
+
+pub bounds-calls-depth : goal.bounds-calls-depth
+bounds-calls-depth c =
+    in_notes _ _ _ _ _ _ _ _ c.requires.good c.requires.reached.0 c.requires.reached.1
+
+pub returns : goal.returns
+returns c =
+    let g = c.requires.good in
+    let r = c.requires.reached.0 in
+    let k = c.requires.reached.1 in
+    let e = c.move_down.ensures in (
+      open_good _ _ _ _ _ _ _ _ g r k _ _ e refl,
+      open_same _ _ _ _ _ _ _ _ g r k _ _ e refl,
+      open_more _ _ _ _ _ _ _ _ g r k _ _ e refl,
+      open_standing _ _ _ _ _ _ _ _ g r k _ _ e refl,
+    )

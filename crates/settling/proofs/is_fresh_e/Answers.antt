@@ -1,0 +1,8 @@
+use Rattle.settling.proofs.Ends.{fresh-told}
+use native.Mathlib.Omega.{arith}
+use borrow.Author.Rules.{rules}
+use Rattle.settling.proofs.is_fresh_e.Goals as goal
+
+pub returns : goal.returns
+returns c =
+    fresh-told c.args.slot c.args.settled c.has.ensures (omega arith) (omega arith)
