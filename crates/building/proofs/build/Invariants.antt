@@ -1,0 +1,13 @@
+use mathlib.Core.Path.{refl}
+use Prim.Native.Nat.{◌-◌}
+use native.Mathlib.Omega.{arith}
+use Rattle.building.proofs.Spans.{walk}
+use Rattle.building.proofs.Filling.{Building, build_room, building_more, built}
+use borrow.Author.Rules.{rules}
+use Rattle.building.proofs.build.Given as goal
+
+abbrev pub invariant-loop-at : goal.invariant-loop-at
+invariant-loop-at l = Building l.program l.from l.to l.arg l.binds l.initial.out l.start l.out l.at l.n
+
+abbrev pub decreases-loop-at : goal.decreases-loop-at
+decreases-loop-at l = l.to - l.at

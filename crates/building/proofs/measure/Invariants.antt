@@ -1,0 +1,14 @@
+use mathlib.Core.List.{List}
+use Prim.Native.Nat.{ℕ, ◌-◌, ◌≤◌}
+use native.Mathlib.Omega.{arith}
+use lib.ListN.{length}
+use Rattle.building.proofs.Spans.{walk}
+use Rattle.building.proofs.Filling.{Measuring, measuring_start, measured_no, measuring_more, measured_all}
+use borrow.Author.Rules.{rules}
+use Rattle.building.proofs.measure.Given as goal
+
+abbrev pub invariant-loop-at : goal.invariant-loop-at
+invariant-loop-at l = (f : List ℕ) × (length f ≤ 65536) × Measuring l.program l.from l.to f l.binds l.limit l.at l.size l.calls l.best.at
+
+abbrev pub decreases-loop-at : goal.decreases-loop-at
+decreases-loop-at l = l.to - l.at

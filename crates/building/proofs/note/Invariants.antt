@@ -1,0 +1,14 @@
+use mathlib.Core.Path.{refl}
+use mathlib.Core.List.{List}
+use Prim.Native.Nat.{ℕ, ◌-◌}
+use native.Mathlib.Omega.{arith}
+use Rattle.building.proofs.Spans.{walk}
+use Rattle.building.proofs.Filling.{Noting, on_room, note_room, noting_more, noted, call-span}
+use borrow.Author.Rules.{rules}
+use Rattle.building.proofs.note.Given as goal
+
+abbrev pub invariant-loop-i : goal.invariant-loop-i
+invariant-loop-i l = (f : List ℕ) × Noting l.program l.from l.to f l.binds l.start l.initial.calls l.first l.calls l.i l.at l.k
+
+abbrev pub decreases-loop-i : goal.decreases-loop-i
+decreases-loop-i l = l.to - l.i
