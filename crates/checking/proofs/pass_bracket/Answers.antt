@@ -1,0 +1,27 @@
+use mathlib.Core.Logic.{⊎_elim, inl, inr}
+use native.Mathlib.Omega.{arith}
+use borrow.Author.Rules.{rules}
+use Rattle.taking.proofs.Tests.{told}
+use Rattle.checking.proofs.Passing.{few, shallow, refused, bracket_passed}
+use Rattle.checking.proofs.pass_bracket.Goals as goal
+use Rattle.checking.proofs.pass_bracket.Goals.{then-kind-gt-CLOSE+else-state-ne-RIGHT, else-kind-gt-CLOSE}
+
+pub returns-then-state-ne-RIGHT : goal.returns-then-state-ne-RIGHT
+returns-then-state-ne-RIGHT c = λ n. refused _ _ _ _ (omega arith)
+
+pub returns-then-not-is_paired : goal.returns-then-not-is_paired
+returns-then-not-is_paired c = λ n. refused _ _ _ _ (omega arith)
+
+pub brackets_after-requires : goal.brackets_after-requires
+brackets_after-requires c =
+    (shallow _ _ c.requires.0 c.requires.1, told c.is_paired.ensures c.if-not-is_paired.false)
+
+pub overflow_add-state : goal.overflow_add-state
+overflow_add-state c =
+    omega (arith, few c.args.state c.requires.0)
+
+pub returns : goal.returns
+returns c =
+    λ n. bracket_passed _ c.requires.0 _ n c.requires.2 c.requires.3
+    (elim c.if-kind-gt-CLOSE.branch [ then-kind-gt-CLOSE+else-state-ne-RIGHT w ↦ inl (w.if-kind-gt-CLOSE.true, w.if-state-ne-RIGHT.false) | else-kind-gt-CLOSE w ↦ inr w.if-kind-gt-CLOSE.false ]) _ c.requires.1
+    (told c.is_paired.ensures c.if-not-is_paired.false) _ _ c.brackets_after.ensures.0 c.brackets_after.ensures.1

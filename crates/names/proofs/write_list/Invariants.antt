@@ -1,0 +1,12 @@
+use Rattle.names.proofs.Writing.{Written, written_none, written_more, written_all, cleared_long, key_short}
+use mathlib.Core.Path.{◌∙◌}
+use Prim.Native.Nat.{◌-◌, ◌≤◌}
+use native.Mathlib.Omega.{arith}
+use borrow.Author.Rules.{rules}
+use Rattle.names.proofs.write_list.Given as goal
+
+abbrev pub invariant-loop-k : goal.invariant-loop-k
+invariant-loop-k l = Written l.text l.firsts l.initial.list l.list l.k × (l.k ≤ l.n)
+
+abbrev pub decreases-loop-k : goal.decreases-loop-k
+decreases-loop-k l = l.n - l.k

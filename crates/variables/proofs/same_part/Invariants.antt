@@ -1,0 +1,12 @@
+use mathlib.Core.Path.{◌≡◌, ◌∙◌}
+use Prim.Native.Nat.{◌+◌, ◌-◌, ◌≤◌}
+use native.Mathlib.Omega.{arith}
+use Rattle.variables.proofs.Parts.{alike, sizes_differ, alike_first, alike_none, alike_no, alike_on}
+use borrow.Author.Rules.{rules}
+use Rattle.variables.proofs.same_part.Given as goal
+
+abbrev pub invariant-loop-k : goal.invariant-loop-k
+invariant-loop-k l = (alike l.text (l.a + l.k) (l.n - l.k) (l.b + l.k) (l.m - l.k) ≡ alike l.text l.a l.n l.b l.m) × (l.k ≤ l.n)
+
+abbrev pub decreases-loop-k : goal.decreases-loop-k
+decreases-loop-k l = l.n - l.k
