@@ -47,7 +47,7 @@ value_grows : (v : ℕ) (ds : List ℕ) → v ≤ value v ds
 value_grows v [] = (let e : value v [] ≡ v = value-nil v in omega arith)
 value_grows v (d ∷ ds) =
     let e : value v (d ∷ ds) ≡ value (v * 10 + (d - 48)) ds = value-cons v d ds in
-    let l : v * 10 + (d - 48) ≤ value (v * 10 + (d - 48)) ds = value_grows _ ds in
+    let l : v * 10 + (d - 48) ≤ value (v * 10 + (d - 48)) ds = value_grows (v * 10 + (d - 48)) ds in
     omega arith
 
 -- what was cut off stays cut off

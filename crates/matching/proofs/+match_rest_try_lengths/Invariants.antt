@@ -1,0 +1,29 @@
+use Rattle.matching.proofs.Lengths.{Trying, trying_start, takes_all, trying_long, trying_level, trying_ready, trying_found, trying_on, trying_over, trying_next, trying_barred, skipped_on}
+use Rattle.foreseeing.proofs.Foreseen.{term_less}
+use Rattle.settling.proofs.Next.{left_proper, next_here}
+use Rattle.matching.proofs.Going.{Going, going_start, going_lost, going_ends, going_over, going_left, single_here, fresh_ready, fresh-seek, going_stuck, going_on}
+use Rattle.settling.proofs.Slots.{kept_self}
+use lib.ListN.{length}
+use native.Mathlib.Omega.{arith}
+use Rattle.elements.proofs.Places.{proper_inside}
+use borrow.Author.Rules.{rules}
+use Prim.Native.Nat.{ℕ, ◌+◌, ◌-◌, ◌*◌, ◌<◌}
+use Rattle.matching.proofs.+match_rest_try_lengths.Given as goal
+
+abbrev pub decreases-match_rest : goal.decreases-match_rest
+decreases-match_rest l = (length l.left.now - l.i) * 2
+
+abbrev pub decreases-try_lengths : goal.decreases-try_lengths
+decreases-try_lengths l = (length l.left.now - l.j) * 2 + 1
+
+abbrev pub invariant-match_rest-loop-here : goal.invariant-match_rest-loop-here
+invariant-match_rest-loop-here l = Going l.left l.i l.arg l.at l.initial.binds l.settled l.here l.place l.binds l.known
+
+abbrev pub decreases-match_rest-loop-here : goal.decreases-match_rest-loop-here
+decreases-match_rest-loop-here l = length l.left - l.here
+
+abbrev pub invariant-try_lengths-loop-end : goal.invariant-try_lengths-loop-end
+invariant-try_lengths-loop-end l = Trying l.left l.j l.arg l.at l.initial.binds l.settled l.slot l.from l.binds
+
+abbrev pub decreases-try_lengths-loop-end : goal.decreases-try_lengths-loop-end
+decreases-try_lengths-loop-end l = length l.arg - l.from

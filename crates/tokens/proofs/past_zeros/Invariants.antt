@@ -1,0 +1,14 @@
+use mathlib.Core.Path.{◌≡◌, refl, ◌∙◌}
+use Prim.Native.Nat.{◌-◌, ◌≤◌, ◌<◌}
+use native.Mathlib.Omega.{arith}
+use lib.ListN.{take, drop}
+use Rattle.text.specs.Tokens.{trim}
+use Rattle.tokens.proofs.Digits.{zero_on, zero_stop, zero_last}
+use borrow.Author.Rules.{rules}
+use Rattle.tokens.proofs.past_zeros.Given as goal
+
+abbrev pub invariant-loop-i : goal.invariant-loop-i
+invariant-loop-i l = (l.start ≤ l.i) × (l.i < l.end) × (trim (take (l.end - l.i) (drop l.i l.s)) ≡ trim (take (l.end - l.start) (drop l.start l.s)))
+
+abbrev pub decreases-loop-i : goal.decreases-loop-i
+decreases-loop-i l = l.end - l.i
