@@ -1,0 +1,14 @@
+use mathlib.Core.Path.{refl}
+use mathlib.Core.List.{◌∷◌, []}
+use Prim.Native.Nat.{◌-◌}
+use native.Mathlib.Omega.{arith}
+use lib.ListN.{length}
+use Rattle.meaning.specs.Elements.{body}
+use Rattle.choosing.proofs.Rest.{header_fits, Finding, finding_start, named_here, named-not, found_other, found_end}
+use Rattle.choosing.proofs.find.Given as goal
+
+abbrev pub invariant-loop-c : goal.invariant-loop-c
+invariant-loop-c l = Finding l.program (l.lo ∷ l.hi ∷ []) l.c.at
+
+abbrev pub decreases-loop-c : goal.decreases-loop-c
+decreases-loop-c l = length l.program - l.c.at

@@ -1,0 +1,14 @@
+use mathlib.Core.Path.{◌≡◌, refl, ◌∙◌}
+use Prim.Native.Nat.{◌+◌, ◌-◌, ◌*◌, ◌≤◌, ◌<◌}
+use native.Mathlib.Omega.{arith}
+use lib.ListN.{length, get_or, length-set}
+use Rattle.putting.specs.Putting.{Runs, further_by}
+use Rattle.putting.proofs.Characters.{plain_more, runs_none, in_side, runs_from, lengths}
+use borrow.Author.Rules.{rules}
+use Rattle.putting.proofs.put_run.Given as goal
+
+abbrev pub invariant-loop-k : goal.invariant-loop-k
+invariant-loop-k l = (l.k ≤ l.n) × Runs l.text l.quote l.last l.from l.reader l.initial.buf (l.from + l.k) (further_by l.reader l.k) l.buf × (length l.buf ≡ length l.initial.buf)
+
+abbrev pub decreases-loop-k : goal.decreases-loop-k
+decreases-loop-k l = l.n - l.k

@@ -1,0 +1,15 @@
+use Rattle.putting.proofs.Writing.{digits-begin, digit_on, digit_out}
+use mathlib.Core.Path.{◌≡◌, refl, ◌∙◌}
+use Prim.Native.Nat.{◌+◌, ◌-◌}
+use native.Mathlib.Omega.{arith}
+use lib.ListN.{length, length-set}
+use lib.Seq.{sets}
+use Rattle.elements.specs.Bytes.{digits}
+use borrow.Author.Rules.{rules}
+use Rattle.putting.proofs.write_number.Given as goal
+
+abbrev pub invariant-loop-i : goal.invariant-loop-i
+invariant-loop-i l = (sets l.buf (l.at + l.i) (digits (l.n - l.i) l.rest) ≡ sets l.initial.buf l.at (digits l.n l.number)) × (length l.buf ≡ length l.initial.buf)
+
+abbrev pub decreases-loop-i : goal.decreases-loop-i
+decreases-loop-i l = l.n - l.i
