@@ -1,0 +1,9 @@
+use native.Mathlib.Omega.{arith}
+use Rattle.running.proofs.Start.{two_sizes}
+use borrow.Author.Rules.{rules}
+use Rattle.running.proofs.run_good.Goals as goal
+
+pub run_noting-requires-2 : goal.run_noting-requires-2
+run_noting-requires-2 c =
+    let l = (two_sizes _ _ _ _ c.requires.sizes_fit).1 in
+    record { checked = c.requires; field_len_bound = omega arith }
