@@ -5,7 +5,7 @@ use Rattle.meaning.specs.Elements.{elements}
 use Rattle.meaning.specs.Goodness.{State as Stage, span, under_limit, first_bad}
 use Rattle.taking.specs.declared.State.{State}
 use Rattle.taking.specs.declared.Taken.{Taken}
-use Rattle.taking.specs.Standing.{part_of, Means, Ready, Steps}
+use Rattle.taking.specs.Standing.{part_of, Means, Steps}
 
 -- a side of a sentence, and it may have an element more
 abbrev pub HasRoom : State → Type 0

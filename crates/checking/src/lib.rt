@@ -1,5 +1,6 @@
 // Whether bytes are a good program, and if not, where the first bad element stands.
 #![tactic(auto)]
+
 ghost use Rattle.std.specs.Prelude.{◌≡◌, true, List, ℕ, ◌≤◌, ◌<◌, length};
 ghost use Rattle.meaning.specs.Goodness.{span, bad_program};
 ghost use Rattle.elements.specs.Bytes.{kind_of, number_of};

@@ -1,5 +1,6 @@
 // Whether bytes are a good field, and if not, where the first bad element stands.
 #![tactic(auto)]
+
 ghost use Rattle.std.specs.Prelude.{◌≡◌, ◌≤◌, ◌<◌, length, replicate};
 ghost use Rattle.meaning.specs.Goodness.{bad_field};
 ghost use Rattle.elements.specs.Reading.{Characters};

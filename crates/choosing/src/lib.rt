@@ -1,5 +1,6 @@
 // Finds a function in a good program, and in its body the first sentence that fits.
 #![tactic(auto)]
+
 ghost use Rattle.std.specs.Prelude.{◌≡◌, true, ◌∷◌, [], ◌+◌, ◌≤◌, ◌<◌, length, get_or};
 ghost use Rattle.meaning.specs.Elements.{elements, size};
 ghost use Rattle.meaning.specs.Machine.{before, holds, apply};

@@ -1,5 +1,6 @@
 // The bytes of a text by class, and runs of them.
 #![tactic(auto)]
+
 ghost use Rattle.std.specs.Prelude.{◌≡◌, ◌+◌, ◌≤◌, length, drop};
 ghost use Rattle.text.specs.Classes.{class_of, of, front};
 ghost use Rattle.classes.specs.Table.{Classes, spelling};

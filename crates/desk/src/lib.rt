@@ -1,5 +1,6 @@
 // The support desk's record and its call, and the pointer into what an answer speaks of.
 #![tactic(auto)]
+
 ghost use Rattle.std.specs.Prelude.{◌≡◌};
 ghost use Rattle.meaning.specs.Pointer.{part_from, used_field, pointer as pointed};
 ghost use Rattle.machine.specs.Codes.{code_of};

@@ -1,5 +1,6 @@
 // The face for C: run, the desk's call, the pointer and reading over plain numbers. A slice is a pointer and a length there.
 #![tactic(auto)]
+
 ghost use Rattle.std.specs.Prelude.{◌≡◌, List, ◌∷◌, ℕ, ◌≤◌, length, drop};
 ghost use Rattle.meaning.specs.Pointer.{pointer};
 ghost use Rattle.machine.specs.Codes.{code_of};

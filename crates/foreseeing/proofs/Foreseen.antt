@@ -11,7 +11,7 @@ use lib.Seq.{get_or-drop, drop-cons}
 use lib.Dec.{T, eqb, leb}
 use borrow.Author.Tests.{leb-true, leb-false, eqb-true, eqb-false}
 use Rattle.meaning.specs.Elements.{kind, body, elements, join, same, is_symbol, is_variable}
-use Rattle.meaning.specs.Matching.{Terms, stop as no-terms, symbol, bracket, s_var, role, Way, Env, bind, keep, known, first_of, seek}
+use Rattle.meaning.specs.Matching.{Terms, stop as no-terms, symbol, bracket, s_var, role, Way, Env, bind, keep, first_of, seek}
 use Rattle.meaning.proofs.Truth.{never, is_true, is_false, see, is_none, is_some, see_o, same_eq, same_refl}
 use Rattle.meaning.proofs.Cutting.{join-cut, body_le, join-append}
 use Rattle.meaning.proofs.Searching.{Good, Sure, Each, none_left, one_more, known_each}

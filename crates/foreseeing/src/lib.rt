@@ -1,5 +1,6 @@
 // Where an e-variable's value can end, as far as what comes next in the left side says.
 #![tactic(auto)]
+
 ghost use Rattle.std.specs.Prelude.{◌≡◌, false, ◌∷◌, ◌-◌, ◌≤◌, length};
 ghost use Rattle.meaning.specs.Elements.{elements};
 ghost use Rattle.elements.specs.Reading.{Proper, Level};

@@ -1,5 +1,6 @@
 // Kinds and what they fix: the length of an element, the slot of a variable; and sets of slots as the bits of a number.
 #![tactic(auto)]
+
 ghost use Rattle.std.specs.Prelude.{◌≡◌, ◌∷◌, [], ◌+◌, ◌≤◌, ◌<◌};
 ghost use Rattle.meaning.specs.Elements.{body, is_symbol, is_variable};
 ghost use Rattle.kinds.specs.Slots.{slot_of, within, joined};

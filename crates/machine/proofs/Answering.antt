@@ -7,12 +7,11 @@ use Prim.Native.Nat.{ℕ, ◌-◌, ◌≤◌}
 use native.Mathlib.Omega.{arith}
 use lib.ListN.{length, take, drop, replicate}
 use lib.Seq.{length-take-le}
-use lib.Dec.{leb, ltb}
-use borrow.Author.Tests.{leb-true, le-ltb}
-use Rattle.meaning.specs.Elements.{elements}
+use lib.Dec.{ltb}
+use borrow.Author.Tests.{le-ltb}
 use Rattle.meaning.specs.Goodness.{bad_program, bad_field}
-use Rattle.meaning.specs.Machine.{longest, sizes, Result, result, run, closing, Answer, answer, machine}
-use Rattle.meaning.proofs.Truth.{never, and_right}
+use Rattle.meaning.specs.Machine.{sizes, Result, result, closing, Answer, answer, machine}
+use Rattle.meaning.proofs.Truth.{never}
 use Rattle.meaning.proofs.Answers.{sizes_used}
 use Rattle.checking.specs.Answers.{check_of}
 use Rattle.checking_fields.specs.Answers.{check_of as field_of, field_check, scratch_after}

@@ -1,5 +1,6 @@
 // The machine: any bytes, sizes and budget in, one of eight answers out.
 #![tactic(auto)]
+
 ghost use Rattle.std.specs.Prelude.{◌≡◌, ◌≤◌};
 ghost use Rattle.meaning.specs.Machine.{sizes, machine, answer};
 ghost use Rattle.running.specs.Running.{Checked};

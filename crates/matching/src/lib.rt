@@ -1,6 +1,7 @@
 // Matching: a left side against an argument. Which variables have a value depends only on how far the left side has been read, so a set of slots
 // goes along by value, and nothing has to be undone after a failed try.
 #![tactic(auto)]
+
 ghost use Rattle.std.specs.Prelude.{◌∷◌, [], ◌-◌, drop};
 ghost use Rattle.meaning.specs.Elements.{elements};
 ghost use Rattle.meaning.specs.Matching.{seek, fronts, first_of};

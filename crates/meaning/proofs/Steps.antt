@@ -10,7 +10,7 @@ use native.Mathlib.Omega.{arith}
 use lib.Dec.{leb}
 use borrow.Author.Tests.{leb-true, leb-false, le-leb, lt-leb, ne_eqb}
 use Rattle.meaning.specs.Elements.{Element, kind, same, size, join, cut, elements}
-use Rattle.meaning.specs.Goodness.{bad_field, at, span}
+use Rattle.meaning.specs.Goodness.{bad_field, span}
 use Rattle.meaning.specs.Matching.{Assignment, plain, role, put, Env, free, seek, given}
 use Rattle.meaning.specs.Machine.{before, behind, Lead, nothing, lead, leading, Step, idle, stuck, onward, fit_in, replace, call, step_at, step, apply, function, pieces}
 use Rattle.meaning.proofs.Words.{Innermost, Leads, Tried, none_left, not_this, this_one, StepIs, no_call, no_function, no_match, no_room, goes}

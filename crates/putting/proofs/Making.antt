@@ -15,7 +15,7 @@ use Rattle.meaning.proofs.Truth.{is_true, is_false, see}
 use Rattle.taking.specs.Standing.{part_of as part_at}
 use Rattle.text.specs.Numbering.{Key}
 use Rattle.text.specs.Tokens.{Token as Meaning, closed, quoted}
-use Rattle.text.specs.Reading.{element, inside, Reader as Told, reader, put_all, closing, part_of, type_of, signed, put_some, within, heading, is_sign, entering}
+use Rattle.text.specs.Reading.{element, Reader as Told, reader, put_all, closing, part_of, type_of, signed, put_some, within, heading, is_sign, entering}
 use Rattle.tokens.specs.declared.Token.{Token}
 use Rattle.tokens.specs.declared.Token.TheVariants as T
 use Rattle.tokens.specs.contracts.Token.{the_type}

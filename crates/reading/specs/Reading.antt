@@ -1,8 +1,7 @@
 -- What the reader's tables stand for, and what its steps hand back.
-use Rattle.std.specs.Prelude.{◌≡◌, Bool, true, false, List, [], ◌∷◌, ℕ, ◌+◌, ◌*◌, ◌≤◌, ◌<◌, length, get_or}
+use Rattle.std.specs.Prelude.{◌≡◌, Bool, true, false, List, [], ◌∷◌, ℕ, ◌+◌, ◌*◌, ◌≤◌, length, get_or}
 use Rattle.meaning.specs.Elements.{Element, join}
 use Rattle.text.specs.Classes.{is_capital}
-use Rattle.text.specs.Tokens.{Token as Meaning}
 use Rattle.text.specs.Numbering.{Key}
 use Rattle.text.specs.Reading.{Reader as Told, type_of, number_in, names_with, variables_with, says, amiss, finish, said}
 use Rattle.names.specs.Names.{named}

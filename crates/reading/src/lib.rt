@@ -1,5 +1,6 @@
 // Rules as text, read into program bytes and a name list.
 #![tactic(auto)]
+
 ghost use Rattle.std.specs.Prelude.{◌≡◌, true, List, ℕ, ◌+◌, ◌*◌, ◌≤◌, ◌<◌, length, get_or, replicate};
 ghost use Rattle.meaning.specs.Elements.{Element as Bytes, join};
 ghost use Rattle.text.specs.Reading.{type_of, says, said};

@@ -1,5 +1,6 @@
 // A run that nothing refuses: step after step, until no call is left, the budget is spent or a step is not possible.
 #![tactic(auto)]
+
 ghost use Rattle.std.specs.Prelude.{◌≡◌, ◌+◌, ◌-◌, ◌*◌, ◌≤◌, ◌<◌, length, drop};
 ghost use Rattle.std.proofs.Math.Seq.{paste};
 ghost use Rattle.meaning.specs.Machine.{run as run_of, closing, machine, answer};

@@ -1,5 +1,6 @@
 // The field spread over its buffer, with a gap at the place of work; and the call brackets on both sides of it.
 #![tactic(auto)]
+
 ghost use Rattle.std.specs.Prelude.{◌≡◌, ◌+◌, ◌*◌, ◌≤◌, ◌<◌, length, get_or, drop};
 ghost use Rattle.meaning.specs.Elements.{cut, size};
 ghost use Rattle.meaning.proofs.Cutting.{Whole};

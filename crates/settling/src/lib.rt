@@ -1,6 +1,7 @@
 // The elements of a left side one by one: the slot of a variable, where the only value that is possible ends, a value noted. The values go into a
 // lent table of 96 numbers: of a variable's slot, the start of its value in the argument, and 48 further on its end.
 #![tactic(auto)]
+
 ghost use Rattle.std.specs.Prelude.{◌≡◌, ◌-◌, ◌≤◌, length, get_or, take, drop};
 ghost use Rattle.meaning.specs.Elements.{elements};
 ghost use Rattle.elements.specs.Bytes.{Told};

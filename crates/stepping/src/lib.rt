@@ -1,5 +1,6 @@
 // One step of the machine at the leading term.
 #![tactic(auto)]
+
 ghost use Rattle.std.specs.Prelude.{◌≡◌, ◌∷◌, [], ℕ, ◌+◌, ◌-◌, ◌*◌, ◌≤◌, ◌<◌, length, get_or};
 ghost use Rattle.meaning.specs.Machine.{step};
 ghost use Rattle.meaning.proofs.Programs.{Functions};

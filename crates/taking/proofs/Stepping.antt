@@ -8,7 +8,7 @@ use lib.ListN.{length, get_or}
 use lib.Dec.{eqb, leb}
 use borrow.Author.Tests.{not-true, eq-eqb, leb-true, ltb-true}
 use Rattle.meaning.specs.Elements.{Element, kind, body, among, is_variable}
-use Rattle.meaning.specs.Goodness.{Part, State as Stage, at, span, stands, implies, ends_side, paired, under_limit, on_right, first_failing, tests, fault, part_after, sided, variables_after, state_after}
+use Rattle.meaning.specs.Goodness.{Part, State as Stage, span, stands, implies, ends_side, paired, under_limit, on_right, first_failing, tests, fault, part_after, sided, variables_after, state_after}
 use Rattle.meaning.proofs.Truth.{is_true, is_false, see, and_left, and_right, or_right, span_le}
 use Rattle.taking.specs.declared.State.{State}
 use Rattle.kinds.specs.Stacks.{stack}

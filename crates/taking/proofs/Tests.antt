@@ -6,7 +6,7 @@ use Prim.Native.Nat.{ℕ, suc, ◌+◌, ◌≤◌, ◌<◌}
 use native.Mathlib.Omega.{arith}
 use native.Mathlib.Numerals.{add-one}
 use lib.Dec.{eqb, leb, ltb}
-use borrow.Author.Tests.{not-true, not-false, le-leb, lt-leb, eqb-true, ne_eqb, ltb-true, lt-ltb, le-ltb}
+use borrow.Author.Tests.{le-leb, lt-leb, eqb-true, ne_eqb, ltb-true, lt-ltb, le-ltb}
 use Rattle.meaning.specs.Elements.{Element}
 use Rattle.meaning.specs.Goodness.{span, stands, implies, ends_side, under_limit, first_failing, part_after, sided, count_after, may_end, at}
 use Rattle.meaning.proofs.Truth.{never, is_true, is_false, see, and_false, span_le}

@@ -1,5 +1,5 @@
 -- What the check's state by value stands for, and one step of the check.
-use Rattle.std.specs.Prelude.{◌≡◌, Bool, true, false, ◌&&◌, ◌||◌, not, cond, List, [], ◌∷◌, ℕ, suc, ◌+◌, ◌-◌, ◌*◌, ◌^◌, ◌≤◌, ◌<◌, length, get_or, take, drop, set, eqb, leb, ltb}
+use Rattle.std.specs.Prelude.{◌≡◌, Bool, true, false, ◌&&◌, ◌||◌, not, cond, List, [], ◌∷◌, ℕ, suc, ◌+◌, ◌-◌, ◌*◌, ◌^◌, ◌≤◌, ◌<◌, length, get_or, set, eqb, leb, ltb}
 use Rattle.meaning.specs.Elements.{Element, kind, body, among}
 use Rattle.meaning.specs.Goodness.{Part, field, outside, start, left, right, after, ended, State as Stage, at, span, stands, implies, ends_side, paired, under_limit, on_right, fault, part_after, sided, count_after, state_after}
 use Rattle.kinds.specs.Slots.{slot_of, within, joined}

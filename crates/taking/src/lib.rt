@@ -1,5 +1,6 @@
 // One element put through the check: which of the tests it fails first, and where reading stands after it.
 #![tactic(auto)]
+
 ghost use Rattle.std.specs.Prelude.{◌≡◌, true, false, ◌||◌, List, ℕ, ◌+◌, ◌^◌, ◌≤◌, ◌<◌, length, leb, ltb};
 ghost use Rattle.meaning.specs.Elements.{Element as Bytes};
 ghost use Rattle.meaning.specs.Goodness.{at, span, implies, ends_side, top, paired, under_limit, first_failing, sided, count_after, may_end};

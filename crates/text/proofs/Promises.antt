@@ -14,7 +14,7 @@ use Rattle.text.specs.Tokens.{Token, Lexeme, token, gap, lex, Placed, placed, fo
 use Rattle.text.specs.Numbering.{Key}
 use Rattle.text.specs.Reading.{Reader, reader, free, between, owed, named, inside, enter, put_all, element, Said, says, amiss, saying, finish, reads, begin, said}
 use Rattle.text.specs.Agreeing.{Counted, Distinct}
-use Rattle.text.specs.Answers.{record_of, list_of, filled, reply, Outcome, outcome, fitted, read_text}
+use Rattle.text.specs.Answers.{record_of, list_of, reply, Outcome, outcome, fitted, read_text}
 use Rattle.text.proofs.Names.{distinct_records}
 use Rattle.text.proofs.Kept.{agreed}
 

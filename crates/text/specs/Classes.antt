@@ -1,5 +1,5 @@
 -- The bytes of a text by class (request One: "A table over all 256 byte values says which class each belongs to").
-use Rattle.std.specs.Prelude.{Bool, true, false, ◌||◌, cond, List, [], ◌∷◌, map, ℕ, ◌+◌, eqb}
+use Rattle.std.specs.Prelude.{Bool, true, false, ◌||◌, cond, List, [], ◌∷◌, ℕ, ◌+◌, eqb}
 use Rattle.meaning.specs.Goodness.{span}
 
 -- classes are numbered so that each run of bytes that counts is a run of classes; 0: begins no token

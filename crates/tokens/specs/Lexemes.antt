@@ -1,5 +1,5 @@
 -- What the code's lexemes stand for, and what its scanners hand back.
-use Rattle.std.specs.Prelude.{◌≡◌, Bool, true, false, cond, List, [], ◌∷◌, ℕ, zero, suc, ◌+◌, ◌-◌, ◌≤◌, ◌<◌, length, get_or, take, drop, ltb}
+use Rattle.std.specs.Prelude.{◌≡◌, Bool, true, false, cond, List, [], ℕ, zero, suc, ◌+◌, ◌-◌, ◌≤◌, ◌<◌, length, get_or, take, drop, ltb}
 use Rattle.std.proofs.Math.Option.{Option, none, some}
 use Rattle.text.specs.Classes.{is_capital, is_digit, in_name, ends_line, in_line, front}
 use Rattle.text.specs.Tokens.{Token as Meaning, malformed, name, call, macrodigit, string, variable, sign, Lexeme as Meant, token, gap, wrong, spelled, value, number, trim, dotted, Quoted as Chars, unclosed, closed, quoted, lex}

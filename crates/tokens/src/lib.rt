@@ -1,5 +1,6 @@
 // What begins at a place of a text: a token, or a gap.
 #![tactic(auto)]
+
 ghost use Rattle.std.specs.Prelude.{◌≡◌, true, false, ◌||◌, ◌+◌, ◌*◌, ◌-◌, ◌≤◌, ◌<◌, length, get_or, drop};
 ghost use Rattle.meaning.specs.Goodness.{span};
 ghost use Rattle.text.specs.Classes.{is_digit};

@@ -1,5 +1,6 @@
 // The numbers of a sentence's variables, by first appearance, for each kind.
 #![tactic(auto)]
+
 ghost use Rattle.std.specs.Prelude.{◌≡◌, ◌∷◌, ◌+◌, ◌≤◌, ◌<◌, length};
 ghost use Rattle.meaning.specs.Elements.{same};
 ghost use Rattle.classes.specs.Table.{Classes, part};

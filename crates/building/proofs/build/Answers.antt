@@ -1,9 +1,7 @@
 use mathlib.Core.Path.{refl}
-use Prim.Native.Nat.{◌-◌}
 use native.Mathlib.Omega.{arith}
 use Rattle.building.proofs.Spans.{walk}
-use Rattle.building.proofs.Filling.{Building, build_room, building_more, built}
-use borrow.Author.Rules.{rules}
+use Rattle.building.proofs.Filling.{build_room, building_more, built}
 use Rattle.building.proofs.build.Goals as goal
 
 pub loop-at-init : goal.loop-at-init

@@ -1,9 +1,5 @@
-use mathlib.Core.Path.{refl}
 use Prim.Native.Nat.{◌-◌}
-use native.Mathlib.Omega.{arith}
-use Rattle.building.proofs.Spans.{walk}
-use Rattle.building.proofs.Filling.{Building, build_room, building_more, built}
-use borrow.Author.Rules.{rules}
+use Rattle.building.proofs.Filling.{Building}
 use Rattle.building.proofs.build.Given as goal
 
 abbrev pub invariant-loop-at : goal.invariant-loop-at

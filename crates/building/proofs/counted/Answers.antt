@@ -1,5 +1,4 @@
 use mathlib.Core.Path.{refl, sym, ◌∙◌}
-use borrow.Author.Rules.{rules}
 use Rattle.building.proofs.counted.Goals as goal
 
 pub returns-then-is_call : goal.returns-then-is_call

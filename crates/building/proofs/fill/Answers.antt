@@ -1,6 +1,5 @@
 use native.Mathlib.Omega.{arith}
 use Rattle.building.proofs.Placing.{two_built}
-use borrow.Author.Rules.{rules}
 use Rattle.building.proofs.fill.Goals as goal
 
 pub build-n-requires : goal.build-n-requires

@@ -1,7 +1,5 @@
 use mathlib.Core.Path.{refl, sym, ◌∙◌}
 use mathlib.Core.Logic.{inl, inr}
-use borrow.Author.Tests.{not-false}
-use borrow.Author.Rules.{rules}
 use Rattle.building.proofs.longer.Goals as goal
 
 pub returns-then-not-is_variable : goal.returns-then-not-is_variable

@@ -1,10 +1,6 @@
-use mathlib.Core.List.{List}
-use Prim.Native.Nat.{ℕ, ◌-◌, ◌≤◌}
 use native.Mathlib.Omega.{arith}
-use lib.ListN.{length}
 use Rattle.building.proofs.Spans.{walk}
-use Rattle.building.proofs.Filling.{Measuring, measuring_start, measured_no, measuring_more, measured_all}
-use borrow.Author.Rules.{rules}
+use Rattle.building.proofs.Filling.{measuring_start, measured_no, measuring_more, measured_all}
 use Rattle.building.proofs.measure.Goals as goal
 
 pub loop-at-init : goal.loop-at-init

@@ -1,10 +1,7 @@
 use mathlib.Core.List.{List}
 use Prim.Native.Nat.{ℕ, ◌-◌, ◌≤◌}
-use native.Mathlib.Omega.{arith}
 use lib.ListN.{length}
-use Rattle.building.proofs.Spans.{walk}
-use Rattle.building.proofs.Filling.{Measuring, measuring_start, measured_no, measuring_more, measured_all}
-use borrow.Author.Rules.{rules}
+use Rattle.building.proofs.Filling.{Measuring}
 use Rattle.building.proofs.measure.Given as goal
 
 abbrev pub invariant-loop-at : goal.invariant-loop-at

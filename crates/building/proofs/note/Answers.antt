@@ -1,10 +1,7 @@
 use mathlib.Core.Path.{refl}
-use mathlib.Core.List.{List}
-use Prim.Native.Nat.{ℕ, ◌-◌}
 use native.Mathlib.Omega.{arith}
 use Rattle.building.proofs.Spans.{walk}
-use Rattle.building.proofs.Filling.{Noting, on_room, note_room, noting_more, noted, call-span}
-use borrow.Author.Rules.{rules}
+use Rattle.building.proofs.Filling.{on_room, note_room, noting_more, noted, call-span}
 use Rattle.building.proofs.note.Goals as goal
 
 pub loop-i-init : goal.loop-i-init

@@ -1,10 +1,6 @@
-use mathlib.Core.Path.{refl}
 use mathlib.Core.List.{List}
 use Prim.Native.Nat.{ℕ, ◌-◌}
-use native.Mathlib.Omega.{arith}
-use Rattle.building.proofs.Spans.{walk}
-use Rattle.building.proofs.Filling.{Noting, on_room, note_room, noting_more, noted, call-span}
-use borrow.Author.Rules.{rules}
+use Rattle.building.proofs.Filling.{Noting}
 use Rattle.building.proofs.note.Given as goal
 
 abbrev pub invariant-loop-i : goal.invariant-loop-i

@@ -1,12 +1,12 @@
 use Rattle.building.proofs.Placing.{argument_short, parts_long, value_inside, placed_all}
 use native.Mathlib.Omega.{arith}
-use borrow.Author.Rules.{rules}
 use Rattle.building.proofs.place.Goals as goal
 
 pub pivot_part-value-requires : goal.pivot_part-value-requires
 pivot_part-value-requires c =
     let a = c.requires.from_le_to in
-    let h = c.requires.hi_le_at in record { pivoted = record {
+    let h = c.requires.hi_le_at in record {
+      pivoted = record {
         from = c.args.from;
         given = record {
           upto = a.0;
@@ -17,7 +17,9 @@ pivot_part-value-requires c =
         };
         whole = a.2;
         pivot_is = a.3;
-      }; binds_len = c.requires.binds_len.0 }
+      };
+      binds_len = c.requires.binds_len.0;
+    }
 
 pub fill-built-requires : goal.fill-built-requires
 fill-built-requires c =

@@ -1,10 +1,8 @@
 use mathlib.Core.Path.{refl, sym, ◌∙◌}
 use mathlib.Core.List.{◌∷◌, []}
 use native.Mathlib.Omega.{arith}
-use borrow.Author.Tests.{not-true, not-false}
 use Rattle.building.proofs.Sides.{plain_piece, var_range, var_next, slot}
 use Rattle.building.proofs.Spans.{span_fixed, span_var}
-use borrow.Author.Rules.{rules}
 use Rattle.building.proofs.put_element.Goals as goal
 
 pub put_part-requires : goal.put_part-requires

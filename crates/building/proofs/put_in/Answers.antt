@@ -1,6 +1,4 @@
 use Rattle.building.proofs.Placing.{put_in_all}
-use Prim.Native.Nat.{◌-◌}
-use borrow.Author.Rules.{rules}
 use Rattle.building.proofs.put_in.Goals as goal
 
 pub returns : goal.returns

@@ -1,10 +1,8 @@
 use mathlib.Core.Path.{refl, sym, ◌∙◌}
 use mathlib.Core.List.{◌∷◌, []}
 use native.Mathlib.Omega.{arith}
-use borrow.Author.Tests.{not-true, not-false}
 use Rattle.building.proofs.Sides.{var_range, var_next, slot}
 use Rattle.building.proofs.Spans.{span_fixed, span_var}
-use borrow.Author.Rules.{rules}
 use Rattle.building.proofs.span_of.Goals as goal
 
 pub returns-then-not-is_variable : goal.returns-then-not-is_variable

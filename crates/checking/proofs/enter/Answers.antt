@@ -1,8 +1,6 @@
 use mathlib.Core.Path.{◌∙◌}
 use mathlib.Core.Logic.{⊎_elim, inl, inr}
-use borrow.Author.Tests.{eqb-true}
 use Rattle.checking.proofs.Reading.{entered}
-use borrow.Author.Rules.{rules}
 use Rattle.checking.proofs.enter.Goals as goal
 
 pub returns-then-state-eq-START : goal.returns-then-state-eq-START

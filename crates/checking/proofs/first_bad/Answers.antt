@@ -1,14 +1,9 @@
 use borrow.Enum.Refused.{opened}
-use mathlib.Core.Path.{◌≡◌, refl, sym, ◌∙◌, ap}
+use mathlib.Core.Path.{refl, sym, ◌∙◌, ap}
 use mathlib.Core.Logic.{⊎_elim}
-use Prim.Native.Nat.{◌-◌}
 use native.Mathlib.Omega.{arith}
-use lib.ListN.{length}
-use borrow.Author.Rules.{rules}
-use Rattle.meaning.specs.Goodness.{bad_program}
 use Rattle.elements.proofs.Places.{unread}
 use Rattle.checking.specs.Answers.{check_of}
-use Rattle.checking.specs.Passing.{Reading}
 use Rattle.checking.proofs.Reading.{begun, ready, got_on, taken_bad, taken_on, unknown_bad, cut_bad, over_good, over_early}
 use Rattle.checking.proofs.first_bad.Goals as goal
 

@@ -1,6 +1,5 @@
-use mathlib.Core.Logic.{⊎_elim, inl, inr}
+use mathlib.Core.Logic.{inl, inr}
 use native.Mathlib.Omega.{arith}
-use borrow.Author.Rules.{rules}
 use Rattle.taking.proofs.Tests.{told}
 use Rattle.checking.proofs.Passing.{few, shallow, refused, bracket_passed}
 use Rattle.checking.proofs.pass_bracket.Goals as goal

@@ -1,5 +1,4 @@
 use native.Mathlib.Omega.{arith}
-use borrow.Author.Rules.{rules}
 use Rattle.checking.proofs.Passing.{refused}
 use Rattle.checking.proofs.pass_element.Goals as goal
 

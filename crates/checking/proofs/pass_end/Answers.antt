@@ -2,7 +2,6 @@ use native.Mathlib.Omega.{arith}
 use Rattle.taking.proofs.Tests.{told}
 use Rattle.checking.proofs.Passing.{end_movable}
 use Rattle.checking.proofs.Reading.{ended}
-use borrow.Author.Rules.{rules}
 use Rattle.checking.proofs.pass_end.Goals as goal
 
 pub state_after-requires : goal.state_after-requires
@@ -10,9 +9,8 @@ state_after-requires c =
     end_movable c.args.state _ (told c.ends_side.ensures c.if-not-ends_side.false)
 
 pub returns : goal.returns
-returns c =
-    (
-      omega (arith, c.pass-passed.ensures.next_is),
-      λ st found R. ended R c.if-bytes-at.false c.pass-passed.ensures.kind_is c.pass-passed.ensures.next_is (told c.ends_side.ensures c.if-not-ends_side.false) c.next_part-to.ensures
-          c.if-to-eq-NOWHERE.false c.if-state-ne0.false c.state_after.ensures,
-    )
+returns c = (
+  omega (arith, c.pass-passed.ensures.next_is),
+  λ st found R. ended R c.if-bytes-at.false c.pass-passed.ensures.kind_is c.pass-passed.ensures.next_is (told c.ends_side.ensures c.if-not-ends_side.false) c.next_part-to.ensures
+      c.if-to-eq-NOWHERE.false c.if-state-ne0.false c.state_after.ensures,
+)

@@ -1,11 +1,7 @@
-use Prim.Native.Nat.{◌-◌, ◌≤◌}
-use mathlib.Core.Path.{◌≡◌, refl, ◌∙◌}
+use mathlib.Core.Path.{refl, ◌∙◌}
 use native.Mathlib.Omega.{arith}
-use lib.ListN.{length}
-use Rattle.checking.specs.Passing.{Onward}
 use Rattle.taking.proofs.Tests.{told}
 use Rattle.checking.proofs.Reading.{here, ready}
-use borrow.Author.Rules.{rules}
 use Rattle.checking.proofs.pass_sentences.Goals as goal
 
 pub loop-stack-init : goal.loop-stack-init
@@ -39,12 +35,11 @@ loop-stack-smaller c =
     )
 
 pub loop-stack-preserved : goal.loop-stack-preserved
-loop-stack-preserved c =
-    (
-      c.pass_side-side.auto.stack ∙ c.loop-stack.invariant.0,
-      omega (arith, c.loop-stack.invariant.1, c.pass_side-side.ensures.0, c.if-to-from.false),
-      λ found R. c.enter-state-in-loop-stack.ensures _ found (c.pass_end-end.ensures.1 _ found (c.pass_side-side.ensures.1 found (c.loop-stack.invariant.2 found R))),
-    )
+loop-stack-preserved c = (
+  c.pass_side-side.auto.stack ∙ c.loop-stack.invariant.0,
+  omega (arith, c.loop-stack.invariant.1, c.pass_side-side.ensures.0, c.if-to-from.false),
+  λ found R. c.enter-state-in-loop-stack.ensures _ found (c.pass_end-end.ensures.1 _ found (c.pass_side-side.ensures.1 found (c.loop-stack.invariant.2 found R))),
+)
 
 pub shape_of-stack : goal.shape_of-stack
 shape_of-stack c = c.loop-stack.invariant.0

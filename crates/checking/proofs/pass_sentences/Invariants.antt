@@ -1,11 +1,7 @@
 use Prim.Native.Nat.{◌-◌, ◌≤◌}
-use mathlib.Core.Path.{◌≡◌, refl, ◌∙◌}
-use native.Mathlib.Omega.{arith}
+use mathlib.Core.Path.{◌≡◌}
 use lib.ListN.{length}
 use Rattle.checking.specs.Passing.{Onward}
-use Rattle.taking.proofs.Tests.{told}
-use Rattle.checking.proofs.Reading.{here, ready}
-use borrow.Author.Rules.{rules}
 use Rattle.checking.proofs.pass_sentences.Given as goal
 
 abbrev pub invariant-loop-stack : goal.invariant-loop-stack

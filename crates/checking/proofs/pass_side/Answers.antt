@@ -1,10 +1,6 @@
-use mathlib.Core.Path.{◌≡◌, refl, ◌∙◌}
-use Prim.Native.Nat.{◌-◌, ◌≤◌}
+use mathlib.Core.Path.{refl, ◌∙◌}
 use native.Mathlib.Omega.{arith}
-use lib.ListN.{length}
-use borrow.Author.Rules.{rules}
 use Rattle.meaning.proofs.Truth.{span_le}
-use Rattle.checking.specs.Passing.{Onward}
 use Rattle.checking.proofs.Passing.{room_in}
 use Rattle.checking.proofs.Reading.{here, ready, got_on, got_fits, passed_on, same-stack}
 use Rattle.checking.proofs.pass_side.Goals as goal
@@ -43,8 +39,7 @@ pub loop-state-preserved : goal.loop-state-preserved
 loop-state-preserved c =
     let got = c.read.ensures in
     let e = c.in-Got.is in
-    let i = c.loop-state.invariant in
-    (
+    let i = c.loop-state.invariant in (
       c.pass_element-taken.ensures.part ∙ i.0,
       omega (arith, i.1, got_on (rw e at got)),
       c.pass_element-taken.auto.stack ∙ i.2,

@@ -1,12 +1,7 @@
-use mathlib.Core.Path.{◌≡◌, refl, ◌∙◌}
+use mathlib.Core.Path.{◌≡◌}
 use Prim.Native.Nat.{◌-◌, ◌≤◌}
-use native.Mathlib.Omega.{arith}
 use lib.ListN.{length}
-use borrow.Author.Rules.{rules}
-use Rattle.meaning.proofs.Truth.{span_le}
 use Rattle.checking.specs.Passing.{Onward}
-use Rattle.checking.proofs.Passing.{room_in}
-use Rattle.checking.proofs.Reading.{here, ready, got_on, got_fits, passed_on, same-stack}
 use Rattle.checking.proofs.pass_side.Given as goal
 
 abbrev pub invariant-loop-state : goal.invariant-loop-state

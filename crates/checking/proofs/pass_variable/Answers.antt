@@ -1,6 +1,4 @@
 use native.Mathlib.Omega.{arith}
-use borrow.Author.Rules.{rules}
-use borrow.Author.Tests.{not-true, not-false}
 use Rattle.checking.proofs.Passing.{few, refused, old_passed, new_passed}
 use Rattle.checking.proofs.pass_variable.Goals as goal
 

@@ -1,4 +1,3 @@
-use borrow.Author.Rules.{rules}
 use Rattle.checking_fields.proofs.Scratch.{too_short, checked}
 use Rattle.checking_fields.proofs.check_field.Goals as goal
 

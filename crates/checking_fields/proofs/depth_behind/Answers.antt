@@ -1,5 +1,4 @@
 use borrow.Enum.Refused.{opened}
-use borrow.Author.Rules.{rules}
 use Rattle.checking_fields.proofs.Turns.{turn_character, turn_name, turn_macrodigit, turn_open, turn_close, turn_call, turn_return, turn_other}
 use Rattle.checking_fields.proofs.depth_behind.Goals as goal
 

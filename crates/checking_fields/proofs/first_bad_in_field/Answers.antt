@@ -1,14 +1,11 @@
 use borrow.Enum.Refused.{opened}
-use mathlib.Core.Path.{◌≡◌, refl, sym, ◌∙◌, ap}
+use mathlib.Core.Path.{refl, sym, ◌∙◌, ap}
 use mathlib.Core.Logic.{⊎_elim}
-use Prim.Native.Nat.{◌-◌}
 use native.Mathlib.Omega.{arith}
-use lib.ListN.{length}
-use borrow.Author.Rules.{rules}
 use Rattle.elements.proofs.Levels.{characters_on}
 use Rattle.elements.proofs.Places.{unread}
 use Rattle.checking_fields.specs.Answers.{check_of}
-use Rattle.checking_fields.proofs.Fields.{InField, begun, got_on, turned, bad_turn, bad_kind, bad_cut, ended_good, ended_early, all}
+use Rattle.checking_fields.proofs.Fields.{begun, got_on, turned, bad_turn, bad_kind, bad_cut, ended_good, ended_early, all}
 use Rattle.checking_fields.proofs.first_bad_in_field.Goals as goal
 
 pub loop-c-init : goal.loop-c-init

@@ -1,4 +1,3 @@
-use borrow.Author.Rules.{rules}
 use Rattle.elements.specs.Reading.{no_more}
 use Rattle.checking_fields.proofs.onward.Goals as goal
 

@@ -1,10 +1,7 @@
 use borrow.Author.Rules.{rules}
-use mathlib.Core.Path.{◌≡◌, refl, ◌∙◌}
-use Prim.Native.Nat.{◌-◌}
+use mathlib.Core.Path.{refl, ◌∙◌}
 use native.Mathlib.Omega.{arith}
-use lib.ListN.{length}
-use Rattle.meaning.specs.Elements.{elements}
-use Rattle.choosing.proofs.Sentences.{Choosing, place_in, has_equals, equals_at, has_end, sentence_at, left_side, choose_none, choose_next, choose_this}
+use Rattle.choosing.proofs.Sentences.{place_in, has_equals, equals_at, has_end, sentence_at, left_side, choose_none, choose_next, choose_this}
 use Rattle.choosing.proofs.choose.Goals as goal
 
 pub loop-c-init : goal.loop-c-init

@@ -1,10 +1,8 @@
-use borrow.Author.Rules.{rules}
-use mathlib.Core.Path.{◌≡◌, refl, ◌∙◌}
+use mathlib.Core.Path.{◌≡◌}
 use Prim.Native.Nat.{◌-◌}
-use native.Mathlib.Omega.{arith}
 use lib.ListN.{length}
 use Rattle.meaning.specs.Elements.{elements}
-use Rattle.choosing.proofs.Sentences.{Choosing, place_in, has_equals, equals_at, has_end, sentence_at, left_side, choose_none, choose_next, choose_this}
+use Rattle.choosing.proofs.Sentences.{Choosing}
 use Rattle.choosing.proofs.choose.Given as goal
 
 abbrev pub invariant-loop-c : goal.invariant-loop-c

@@ -1,10 +1,7 @@
 use mathlib.Core.Path.{refl}
-use mathlib.Core.List.{◌∷◌, []}
-use Prim.Native.Nat.{◌-◌}
 use native.Mathlib.Omega.{arith}
-use lib.ListN.{length}
 use Rattle.meaning.specs.Elements.{body}
-use Rattle.choosing.proofs.Rest.{header_fits, Finding, finding_start, named_here, named-not, found_other, found_end}
+use Rattle.choosing.proofs.Rest.{header_fits, finding_start, named_here, named-not, found_other, found_end}
 use Rattle.choosing.proofs.find.Goals as goal
 
 pub loop-c-init : goal.loop-c-init

@@ -1,10 +1,7 @@
-use mathlib.Core.Path.{refl}
 use mathlib.Core.List.{◌∷◌, []}
 use Prim.Native.Nat.{◌-◌}
-use native.Mathlib.Omega.{arith}
 use lib.ListN.{length}
-use Rattle.meaning.specs.Elements.{body}
-use Rattle.choosing.proofs.Rest.{header_fits, Finding, finding_start, named_here, named-not, found_other, found_end}
+use Rattle.choosing.proofs.Rest.{Finding}
 use Rattle.choosing.proofs.find.Given as goal
 
 abbrev pub invariant-loop-c : goal.invariant-loop-c

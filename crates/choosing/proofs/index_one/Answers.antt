@@ -2,7 +2,6 @@ use Rattle.meaning.specs.Elements.{body}
 use native.Mathlib.Omega.{arith}
 use Rattle.choosing.proofs.Rest.{header_fits}
 use Rattle.choosing.proofs.Table.{index_other, header_kept, header_new}
-use borrow.Author.Rules.{rules}
 use Rattle.choosing.proofs.index_one.Goals as goal
 
 pub returns-then-passed-ne-HEADER : goal.returns-then-passed-ne-HEADER

@@ -1,9 +1,6 @@
-use mathlib.Core.Path.{◌≡◌, sym, ◌∙◌}
-use Prim.Native.Nat.{◌-◌}
+use mathlib.Core.Path.{sym, ◌∙◌}
 use native.Mathlib.Omega.{arith}
-use lib.ListN.{length, length-set}
-use borrow.Author.Rules.{rules}
-use Rattle.choosing.specs.Choose.{Indexed}
+use lib.ListN.{length-set}
 use Rattle.choosing.proofs.Table.{kept_at, cache_at}
 use Rattle.choosing.proofs.index_to.Goals as goal
 

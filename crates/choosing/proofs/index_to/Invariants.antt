@@ -1,10 +1,7 @@
-use mathlib.Core.Path.{◌≡◌, sym, ◌∙◌}
+use mathlib.Core.Path.{◌≡◌}
 use Prim.Native.Nat.{◌-◌}
-use native.Mathlib.Omega.{arith}
-use lib.ListN.{length, length-set}
-use borrow.Author.Rules.{rules}
+use lib.ListN.{length}
 use Rattle.choosing.specs.Choose.{Indexed}
-use Rattle.choosing.proofs.Table.{kept_at, cache_at}
 use Rattle.choosing.proofs.index_to.Given as goal
 
 abbrev pub invariant-loop-c : goal.invariant-loop-c

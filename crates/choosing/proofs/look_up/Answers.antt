@@ -2,7 +2,6 @@ use mathlib.Core.Path.{refl}
 use native.Mathlib.Omega.{arith}
 use Rattle.meaning.specs.Elements.{body}
 use Rattle.choosing.proofs.Table.{table_none, table_in, table_some}
-use borrow.Author.Rules.{rules}
 use Rattle.choosing.proofs.look_up.Goals as goal
 
 pub overflow_cast-place : goal.overflow_cast-place

@@ -1,8 +1,6 @@
 use mathlib.Core.Path.{refl, sym, ◌∙◌}
-use Prim.Native.Nat.{◌-◌}
 use native.Mathlib.Omega.{arith}
-use lib.ListN.{length}
-use Rattle.choosing.proofs.Rest.{Seeking, seek_in, seek_here, seek_next}
+use Rattle.choosing.proofs.Rest.{seek_in, seek_here, seek_next}
 use Rattle.choosing.proofs.seek_kind.Goals as goal
 
 pub loop-passed-init : goal.loop-passed-init

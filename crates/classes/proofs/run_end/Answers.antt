@@ -1,9 +1,5 @@
-use mathlib.Core.Path.{◌≡◌, refl, sym, ◌∙◌}
-use Prim.Native.Nat.{◌+◌, ◌-◌}
-use lib.ListN.{length, drop}
-use Rattle.text.specs.Classes.{of, front}
+use mathlib.Core.Path.{refl, sym, ◌∙◌}
 use Rattle.classes.proofs.Runs.{of_yes, of_low, of_high, run_on, run_stop, run_out}
-use borrow.Author.Rules.{rules}
 use Rattle.classes.proofs.run_end.Goals as goal
 
 pub loop-i-init : goal.loop-i-init

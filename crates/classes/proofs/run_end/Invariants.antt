@@ -1,9 +1,7 @@
-use mathlib.Core.Path.{◌≡◌, refl, sym, ◌∙◌}
+use mathlib.Core.Path.{◌≡◌}
 use Prim.Native.Nat.{◌+◌, ◌-◌}
 use lib.ListN.{length, drop}
 use Rattle.text.specs.Classes.{of, front}
-use Rattle.classes.proofs.Runs.{of_yes, of_low, of_high, run_on, run_stop, run_out}
-use borrow.Author.Rules.{rules}
 use Rattle.classes.proofs.run_end.Given as goal
 
 abbrev pub invariant-loop-i : goal.invariant-loop-i

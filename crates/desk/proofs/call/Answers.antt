@@ -1,5 +1,4 @@
 use Rattle.desk.proofs.Calls.{call_alters_nothing, call_runs}
-use borrow.Author.Rules.{rules}
 use Rattle.desk.proofs.call.Goals as goal
 
 pub returns-then-number-ne1 : goal.returns-then-number-ne1

@@ -1,5 +1,4 @@
 use Rattle.desk.proofs.Pointing.{used_past_field, place_past_used, inside_used}
-use borrow.Author.Rules.{rules}
 use Rattle.desk.proofs.in_field.Goals as goal
 
 pub returns-then-end-used : goal.returns-then-end-used

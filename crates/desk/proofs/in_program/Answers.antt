@@ -1,5 +1,4 @@
 use Rattle.desk.proofs.Pointing.{past-part, rest_of_part}
-use borrow.Author.Rules.{rules}
 use Rattle.desk.proofs.in_program.Goals as goal
 
 pub returns-then-program-place : goal.returns-then-program-place

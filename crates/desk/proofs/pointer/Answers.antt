@@ -1,5 +1,4 @@
 use Rattle.meaning.specs.Pointer.{pointer}
-use borrow.Author.Rules.{rules}
 use Rattle.desk.proofs.pointer.Goals as goal
 
 pub returns-in-Done : goal.returns-in-Done

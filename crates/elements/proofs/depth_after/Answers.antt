@@ -1,6 +1,5 @@
 use Rattle.elements.specs.Reading.{depth_after}
 use borrow.Author.Tests.{eq-eqb, ne_eqb}
-use borrow.Author.Rules.{rules}
 use Rattle.elements.proofs.depth_after.Goals as goal
 
 pub returns-then-k-eq-OPEN : goal.returns-then-k-eq-OPEN

@@ -1,9 +1,5 @@
-use Rattle.elements.specs.Reading.{Comparing}
-use Rattle.elements.proofs.Values.{compare_start, compare_proper, compare_on, shared_less, compare_lost, compare_won, lengths_differ}
-use lib.ListN.{length}
-use Prim.Native.Nat.{◌-◌}
+use Rattle.elements.proofs.Values.{compare_start, compare_proper, compare_on, compare_lost, compare_won, lengths_differ}
 use native.Mathlib.Omega.{arith}
-use borrow.Author.Rules.{rules}
 use Rattle.elements.proofs.equal_values.Goals as goal
 
 pub returns-then-a-b : goal.returns-then-a-b
@@ -15,14 +11,14 @@ shared_characters-at-requires c =
 
 -- GOAL? loop-holds : tie.Need-loop-init invariant-loop decreases-loop
 -- loop-holds c = c.shared-characters.ensures.0
--- 
+--
 
 pub shared_end-requires : goal.shared_end-requires
 shared_end-requires c = (compare_proper _ _ _ c.loop-at.invariant c.loop-at-test.true, omega (arith, c.loop-at.invariant.long))
 
 -- GOAL? enum-known-next : tie.Need-enum-known-next invariant-loop decreases-loop
 -- enum-known-next c = search rules
--- 
+--
 
 pub shared_characters-at-requires-in-At : goal.shared_characters-at-requires-in-At
 shared_characters-at-requires-in-At c =
@@ -32,15 +28,15 @@ shared_characters-at-requires-in-At c =
 -- loop-less c =
 --     let shared-end = c.before.before.before.before.shared-end in
 --     omega (arith, shared_less _ _ _ _ (rw c.before.before.next.given.1 at shared-end.ensures), c.shared-characters2.ensures.1)
--- 
+--
 
 -- GOAL? loop-again : tie.Need-loop-preserved invariant-loop decreases-loop
 -- loop-again c = c.shared-characters2.ensures.0
--- 
+--
 
 -- GOAL? enum_told : tie.Need-enum-told invariant-loop decreases-loop
 -- enum_told c = search rules
--- 
+--
 
 pub returns-in-Nothing : goal.returns-in-Nothing
 returns-in-Nothing c = compare_lost _ _ _ (rw c.in-Nothing.is at c.shared_end.ensures)

@@ -1,9 +1,6 @@
 use Rattle.elements.specs.Reading.{Comparing}
-use Rattle.elements.proofs.Values.{compare_start, compare_proper, compare_on, shared_less, compare_lost, compare_won, lengths_differ}
 use lib.ListN.{length}
 use Prim.Native.Nat.{◌-◌}
-use native.Mathlib.Omega.{arith}
-use borrow.Author.Rules.{rules}
 use Rattle.elements.proofs.equal_values.Given as goal
 
 abbrev pub invariant-loop-at : goal.invariant-loop-at

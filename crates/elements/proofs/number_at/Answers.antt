@@ -2,7 +2,6 @@ use Rattle.elements.proofs.Digits.{four, one_byte, digits_one, digits_more, byte
 use Rattle.elements.specs.Bytes.{digits}
 use native.Mathlib.Omega.{arith}
 use mathlib.Core.Path.{refl, sym, ◌∙◌}
-use borrow.Author.Rules.{rules}
 use Rattle.elements.proofs.number_at.Goals as goal
 
 pub returns-then-width-eq0 : goal.returns-then-width-eq0

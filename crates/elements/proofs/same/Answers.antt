@@ -1,6 +1,5 @@
 use Rattle.elements.proofs.Values.{same_number, other_kind}
 use mathlib.Core.Path.{sym, ◌∙◌}
-use borrow.Author.Rules.{rules}
 use Rattle.elements.proofs.same.Goals as goal
 
 pub returns-then-kind_of : goal.returns-then-kind_of

@@ -1,9 +1,5 @@
-use Rattle.elements.specs.Reading.{Comparing}
 use Rattle.elements.proofs.Values.{character_inside, compare_character}
-use lib.ListN.{length}
-use Prim.Native.Nat.{◌-◌, ◌≤◌}
 use native.Mathlib.Omega.{arith}
-use borrow.Author.Rules.{rules}
 use Rattle.elements.proofs.shared_characters.Goals as goal
 
 pub loop-i-init : goal.loop-i-init

@@ -1,9 +1,6 @@
 use Rattle.elements.specs.Reading.{Comparing}
-use Rattle.elements.proofs.Values.{character_inside, compare_character}
 use lib.ListN.{length}
 use Prim.Native.Nat.{◌-◌, ◌≤◌}
-use native.Mathlib.Omega.{arith}
-use borrow.Author.Rules.{rules}
 use Rattle.elements.proofs.shared_characters.Given as goal
 
 abbrev pub invariant-loop-i : goal.invariant-loop-i

@@ -1,7 +1,6 @@
 use Rattle.elements.proofs.Values.{shared, different, got_number}
 use Rattle.elements.proofs.Places.{proper_inside, proper_too, not_over, not_unknown, not-cut}
 use Rattle.elements.specs.Reading.{differ}
-use borrow.Author.Rules.{rules}
 use Rattle.elements.proofs.shared_end.Goals as goal
 
 pub pass-passed-requires : goal.pass-passed-requires
@@ -16,11 +15,11 @@ returns-then-is_symbol c = c.shared_bytes.ensures
 
 -- GOAL? enum-known-x : tie.Need-enum-known-x
 -- enum-known-x c = search rules
--- 
+--
 
 -- GOAL? enum-known-y : tie.Need-enum-known-y
 -- enum-known-y c = search rules
--- 
+--
 
 pub same-requires : goal.same-requires
 same-requires c =
@@ -28,27 +27,27 @@ same-requires c =
 
 -- GOAL? enum_told : tie.Need-enum-told
 -- enum_told c = search rules
--- 
+--
 
 -- GOAL? enum-told-2 : tie.Need-enum-told-2
 -- enum-told-2 c = search rules
--- 
+--
 
 -- GOAL? enum-told-3 : tie.Need-enum-told-3
 -- enum-told-3 c = search rules
--- 
+--
 
 -- GOAL? enum-told-4 : tie.Need-enum-told-4
 -- enum-told-4 c = search rules
--- 
+--
 
 -- GOAL? enum-told-5 : tie.Need-enum-told-5
 -- enum-told-5 c = search rules
--- 
+--
 
 -- GOAL? enum-told-6 : tie.Need-enum-told-6
 -- enum-told-6 c = search rules
--- 
+--
 
 pub returns-then-same : goal.returns-then-same
 returns-then-same c =

@@ -1,9 +1,6 @@
 use mathlib.Core.Path.{◌≡◌}
-use Prim.Native.Nat.{◌-◌}
 use native.Mathlib.Omega.{arith}
-use lib.ListN.{length}
-use borrow.Author.Rules.{rules}
-use Rattle.elements.proofs.Levels.{Seeking, seek_start, seek_on, seek_over, seek_shut, seek_done}
+use Rattle.elements.proofs.Levels.{seek_start, seek_on, seek_over, seek_shut, seek_done}
 use Rattle.elements.proofs.shut_end.Goals as goal
 
 pub loop-depth-init : goal.loop-depth-init

@@ -1,9 +1,7 @@
-use borrow.Author.Rules.{rules}
 use Rattle.elements.proofs.Values.{byte_more, byte_differs, bytes_short}
 use mathlib.Core.Path.{◌≡◌, refl}
-use lib.ListN.{take, drop}
 use native.Mathlib.Omega.{arith}
-use Prim.Native.Nat.{◌-◌, ◌≤◌}
+use Prim.Native.Nat.{◌-◌}
 use Rattle.elements.proofs.stands_at.Goals as goal
 
 pub returns-then-y-at : goal.returns-then-y-at
@@ -18,11 +16,10 @@ returns-then-x-i c =
     byte_differs c.args.x.now c.args.i c.args.y.now c.args.at (c.args.j - c.args.i) c.loop-k.k (omega arith) c.if-x-i.true
 
 pub loop-k-preserved : goal.loop-k-preserved
-loop-k-preserved c =
-    (
-      omega arith,
-      byte_more c.args.x.now c.args.i c.args.y.now c.args.at c.loop-k.k (omega arith) (omega arith) c.loop-k.invariant.1 c.if-x-i.false,
-    )
+loop-k-preserved c = (
+  omega arith,
+  byte_more c.args.x.now c.args.i c.args.y.now c.args.at c.loop-k.k (omega arith) (omega arith) c.loop-k.invariant.1 c.if-x-i.false,
+)
 
 pub returns : goal.returns
 returns c =

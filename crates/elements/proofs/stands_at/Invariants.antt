@@ -1,8 +1,5 @@
-use borrow.Author.Rules.{rules}
-use Rattle.elements.proofs.Values.{byte_more, byte_differs, bytes_short}
-use mathlib.Core.Path.{◌≡◌, refl}
+use mathlib.Core.Path.{◌≡◌}
 use lib.ListN.{take, drop}
-use native.Mathlib.Omega.{arith}
 use Prim.Native.Nat.{◌-◌, ◌≤◌}
 use Rattle.elements.proofs.stands_at.Given as goal
 

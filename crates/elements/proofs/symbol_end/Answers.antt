@@ -1,8 +1,6 @@
 use mathlib.Core.Path.{sym, ◌∙◌}
 use mathlib.Core.List.{◌∷◌, []}
 use native.Mathlib.Omega.{arith}
-use borrow.Author.Rules.{rules}
-use borrow.Author.Tests.{not-true, not-false}
 use Rattle.meaning.proofs.Truth.{true_T}
 use Rattle.elements.specs.Reading.{symbol_at}
 use Rattle.elements.proofs.Places.{behind, no_symbol_end, no_symbol_here, symbol_here, symbol_kind}

@@ -3,7 +3,6 @@ use Rattle.elements.proofs.Places.{behind, no_term_end, no_term_here, symbol_her
 use Rattle.elements.specs.Reading.{term_at}
 use Rattle.meaning.specs.Matching.{symbol, stop}
 use native.Mathlib.Omega.{arith}
-use borrow.Author.Rules.{rules}
 use Rattle.elements.proofs.term_end.Goals as goal
 
 pub returns-then-s-at : goal.returns-then-s-at

@@ -1,7 +1,6 @@
 use Rattle.elements.proofs.Digits.{two_bytes, digits_two}
 use native.Mathlib.Omega.{arith}
 use mathlib.Core.Path.{sym, ◌∙◌}
-use borrow.Author.Rules.{rules}
 use Rattle.elements.proofs.word.Goals as goal
 
 pub returns : goal.returns

@@ -1,5 +1,4 @@
 use Rattle.embed.proofs.Faces.{no_record, record_ended, record_called}
-use borrow.Author.Rules.{rules}
 use Rattle.embed.proofs.odolzagi_desk.Goals as goal
 
 pub returns-then-noted-lt3 : goal.returns-then-noted-lt3

@@ -1,7 +1,6 @@
 use mathlib.Core.Path.{refl}
 use borrow.Author.Tests.{eq-eqb, ne_eqb}
 use Rattle.embed.proofs.Faces.{no_part, empty-part, whole_part}
-use borrow.Author.Rules.{rules}
 use Rattle.embed.proofs.odolzagi_pointer.Goals as goal
 
 pub returns-then-part-lt3 : goal.returns-then-part-lt3

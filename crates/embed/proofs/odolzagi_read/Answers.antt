@@ -1,5 +1,4 @@
 use Rattle.embed.proofs.Faces.{nothing_read, read_told}
-use borrow.Author.Rules.{rules}
 use Rattle.embed.proofs.odolzagi_read.Goals as goal
 
 pub returns-then-numbers-lt4 : goal.returns-then-numbers-lt4

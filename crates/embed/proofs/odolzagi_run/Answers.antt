@@ -1,5 +1,4 @@
 use Rattle.embed.proofs.Faces.{no_answer, answer_told}
-use borrow.Author.Rules.{rules}
 use Rattle.embed.proofs.odolzagi_run.Goals as goal
 
 pub returns-then-answer-lt4 : goal.returns-then-answer-lt4

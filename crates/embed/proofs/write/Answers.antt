@@ -1,7 +1,6 @@
 use lib.ListN.{length-set}
 use native.Mathlib.Omega.{arith}
 use Rattle.embed.proofs.Faces.{three_written}
-use borrow.Author.Rules.{rules}
 use Rattle.embed.proofs.write.Goals as goal
 
 pub bounds-numbers-1 : goal.bounds-numbers-1

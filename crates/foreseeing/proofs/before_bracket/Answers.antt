@@ -6,7 +6,6 @@ use native.Mathlib.Omega.{arith}
 use Prim.Native.Nat.{◌-◌}
 use mathlib.Core.Path.{◌≡◌, sym, ◌∙◌}
 use Rattle.elements.proofs.Places.{proper_inside}
-use borrow.Author.Rules.{rules}
 use Rattle.foreseeing.proofs.before_bracket.Goals as goal
 
 pub pass-passed-requires : goal.pass-passed-requires

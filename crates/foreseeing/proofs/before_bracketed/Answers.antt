@@ -1,6 +1,5 @@
 use Rattle.foreseeing.proofs.Foreseen.{bracket_begins}
 use mathlib.Core.Path.{refl}
-use borrow.Author.Rules.{rules}
 use Rattle.foreseeing.proofs.before_bracketed.Goals as goal
 
 pub returns : goal.returns

@@ -1,7 +1,6 @@
 use Rattle.foreseeing.proofs.Foreseen.{value_last, value_begins, character_long, sound_between}
 use native.Mathlib.Omega.{arith}
 use mathlib.Core.Path.{refl}
-use borrow.Author.Rules.{rules}
 use Rattle.foreseeing.proofs.before_value.Goals as goal
 
 pub returns-then-last : goal.returns-then-last

@@ -1,7 +1,6 @@
 use native.Mathlib.Omega.{arith}
 use mathlib.Core.Path.{refl}
 use Rattle.meaning.proofs.Truth.{never}
-use borrow.Author.Rules.{rules}
 use Rattle.foreseeing.proofs.byte_of.Goals as goal
 
 pub returns-then-value-i : goal.returns-then-value-i

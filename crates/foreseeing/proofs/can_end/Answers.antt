@@ -2,7 +2,6 @@ use Rattle.foreseeing.specs.Foresight.{early, late, other_kind, other_second, ma
 use Rattle.foreseeing.proofs.Foreseen.{ends_nothing, third_told}
 use native.Mathlib.Omega.{arith}
 use Prim.Native.Nat.{◌+◌}
-use borrow.Author.Rules.{rules}
 use Rattle.foreseeing.proofs.can_end.Goals as goal
 
 pub returns-then-at-w : goal.returns-then-at-w

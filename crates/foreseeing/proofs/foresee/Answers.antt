@@ -7,7 +7,6 @@ use borrow.Author.Tests.{eqb-true}
 use native.Mathlib.Omega.{arith}
 use mathlib.Core.Path.{sym, ◌∙◌}
 use Rattle.elements.proofs.Places.{proper_inside}
-use borrow.Author.Rules.{rules}
 use Rattle.foreseeing.proofs.foresee.Goals as goal
 
 pub pass-passed-requires : goal.pass-passed-requires
@@ -15,13 +14,12 @@ pass-passed-requires c =
     proper_inside (left_proper c.requires.0)
 
 pub before_bracket-requires : goal.before_bracket-requires
-before_bracket-requires c =
-    (
-      (opening_next c.requires.0
-          (next_here c.requires.0 c.pass-passed.ensures (slot_fixed c.requires.0 (omega (arith, (sym c.pass-passed.ensures.kind_is ∙ c.if-passed-eq-OPEN.true)))))
-          (sym c.pass-passed.ensures.kind_is ∙ c.if-passed-eq-OPEN.true)).1,
-      c.requires.1.table,
-    )
+before_bracket-requires c = (
+  (opening_next c.requires.0
+      (next_here c.requires.0 c.pass-passed.ensures (slot_fixed c.requires.0 (omega (arith, (sym c.pass-passed.ensures.kind_is ∙ c.if-passed-eq-OPEN.true)))))
+      (sym c.pass-passed.ensures.kind_is ∙ c.if-passed-eq-OPEN.true)).1,
+  c.requires.1.table,
+)
 
 pub returns-then-passed-eq-OPEN : goal.returns-then-passed-eq-OPEN
 returns-then-passed-eq-OPEN c =

@@ -1,10 +1,7 @@
-use Rattle.foreseeing.specs.Foresight.{Skipped, at_once, term_more, ends_at, never_ends}
+use Rattle.foreseeing.specs.Foresight.{at_once, term_more, ends_at, never_ends}
 use Rattle.foreseeing.proofs.Foreseen.{barred_there, skipped_level, over_characters, term_less}
 use Rattle.elements.proofs.Levels.{characters_on}
-use lib.ListN.{length}
-use Prim.Native.Nat.{◌-◌}
 use native.Mathlib.Omega.{arith}
-use borrow.Author.Rules.{rules}
 use Rattle.foreseeing.proofs.next_end.Goals as goal
 
 pub loop-w-init : goal.loop-w-init

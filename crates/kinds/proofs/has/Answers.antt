@@ -1,5 +1,4 @@
 use mathlib.Core.Path.{refl}
-use borrow.Author.Rules.{rules}
 use Rattle.kinds.specs.Slots.{within}
 use Rattle.kinds.proofs.has.Goals as goal
 

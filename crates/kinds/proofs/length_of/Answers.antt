@@ -1,5 +1,4 @@
 use native.Mathlib.Omega.{arith}
-use borrow.Author.Rules.{rules}
 use Rattle.meaning.proofs.Cutting.{body_le}
 use Rattle.kinds.proofs.Bodies.{length-known, body_unknown}
 use Rattle.kinds.proofs.length_of.Goals as goal

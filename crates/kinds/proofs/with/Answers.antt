@@ -1,4 +1,3 @@
-use borrow.Author.Rules.{rules}
 use Rattle.kinds.specs.Slots.{joined}
 use Rattle.kinds.proofs.Sets.{one_shifted}
 use Rattle.kinds.proofs.with.Goals as goal

@@ -1,8 +1,6 @@
 use Rattle.machine.proofs.Answering.{check_good, check_bad, bad_program_lem, bad_sizes}
 use Rattle.meaning.specs.Goodness.{bad_program}
-use borrow.Author.Tests.{not-true, not-false}
 use mathlib.Core.Path.{refl, sym, ◌∙◌}
-use borrow.Author.Rules.{rules}
 use Rattle.machine.proofs.run.Goals as goal
 
 pub shape_of-field-then-not-sizes_fit : goal.shape_of-field-then-not-sizes_fit

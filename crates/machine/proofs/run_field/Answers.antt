@@ -2,7 +2,6 @@ use Rattle.machine.proofs.Answering.{field_good, field_bad, never_short, used_fi
 use Rattle.meaning.specs.Goodness.{bad_field}
 use mathlib.Core.Path.{refl, ◌∙◌}
 use native.Mathlib.Omega.{arith}
-use borrow.Author.Rules.{rules}
 use Rattle.machine.proofs.run_field.Goals as goal
 
 pub slice_bounds-check_field-end : goal.slice_bounds-check_field-end

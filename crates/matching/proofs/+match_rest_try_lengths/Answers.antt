@@ -1,13 +1,10 @@
-use Rattle.matching.proofs.Lengths.{Trying, trying_start, takes_all, trying_long, trying_level, trying_ready, trying_found, trying_on, trying_over, trying_next, trying_barred, skipped_on}
+use Rattle.matching.proofs.Lengths.{trying_start, takes_all, trying_long, trying_level, trying_ready, trying_found, trying_on, trying_over, trying_next, trying_barred, skipped_on}
 use Rattle.foreseeing.proofs.Foreseen.{term_less}
 use Rattle.settling.proofs.Next.{left_proper, next_here}
-use Rattle.matching.proofs.Going.{Going, going_start, going_lost, going_ends, going_over, going_left, single_here, fresh_ready, fresh-seek, going_stuck, going_on}
+use Rattle.matching.proofs.Going.{going_start, going_lost, going_ends, going_over, going_left, single_here, fresh_ready, fresh-seek, going_stuck, going_on}
 use Rattle.settling.proofs.Slots.{kept_self}
-use lib.ListN.{length}
 use native.Mathlib.Omega.{arith}
 use Rattle.elements.proofs.Places.{proper_inside}
-use borrow.Author.Rules.{rules}
-use Prim.Native.Nat.{ℕ, ◌+◌, ◌-◌, ◌*◌, ◌<◌}
 use Rattle.matching.proofs.+match_rest_try_lengths.Goals as goal
 
 pub match_rest-loop-here-init : goal.match_rest-loop-here-init
@@ -25,20 +22,19 @@ pub match_rest-is_fresh_e-requires : goal.match_rest-is_fresh_e-requires
 match_rest-is_fresh_e-requires t c = c.slot_at-slot.ensures.high
 
 pub match_rest-try_lengths-requires : goal.match_rest-try_lengths-requires
-match_rest-try_lengths-requires t c =
-    (
-      omega (
-        arith,
-        (next_here (going_left c.loop-here.invariant c.loop-here-test.true) c.pass-passed.ensures c.slot_at-slot.ensures).on,
-        c.loop-here.invariant.on,
-        c.loop-here-test.true,
-      ),
-      (
-        fresh_ready c.loop-here.invariant (next_here (going_left c.loop-here.invariant c.loop-here-test.true) c.pass-passed.ensures c.slot_at-slot.ensures)
-            (rw c.if-is_fresh_e.true at c.is_fresh_e.ensures),
+match_rest-try_lengths-requires t c = (
+  omega (
+    arith,
+    (next_here (going_left c.loop-here.invariant c.loop-here-test.true) c.pass-passed.ensures c.slot_at-slot.ensures).on,
+    c.loop-here.invariant.on,
+    c.loop-here-test.true,
+  ),
+  (
+    fresh_ready c.loop-here.invariant (next_here (going_left c.loop-here.invariant c.loop-here-test.true) c.pass-passed.ensures c.slot_at-slot.ensures)
         (rw c.if-is_fresh_e.true at c.is_fresh_e.ensures),
-      ),
-    )
+    (rw c.if-is_fresh_e.true at c.is_fresh_e.ensures),
+  ),
+)
 
 pub match_rest-returns-then-is_fresh_e : goal.match_rest-returns-then-is_fresh_e
 match_rest-returns-then-is_fresh_e t c =
@@ -85,16 +81,15 @@ try_lengths-returns-then-j-left t c =
     takes_all c.requires.0 c.requires.1 c.if-j-left.true c.settle.ensures
 
 pub try_lengths-foresee-w-requires : goal.try_lengths-foresee-w-requires
-try_lengths-foresee-w-requires t c =
-    (
-      record {
-        depth = c.requires.0.depth;
-        inside = omega (arith, c.requires.0.left_fits, c.if-j-left.false);
-        left_side = c.requires.0.left_side;
-      },
-      c.requires.0,
-      c.requires.1,
-    )
+try_lengths-foresee-w-requires t c = (
+  record {
+    depth = c.requires.0.depth;
+    inside = omega (arith, c.requires.0.left_fits, c.if-j-left.false);
+    left_side = c.requires.0.left_side;
+  },
+  c.requires.0,
+  c.requires.1,
+)
 
 pub try_lengths-loop-end-init : goal.try_lengths-loop-end-init
 try_lengths-loop-end-init t c =

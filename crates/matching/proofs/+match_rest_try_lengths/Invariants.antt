@@ -1,13 +1,7 @@
-use Rattle.matching.proofs.Lengths.{Trying, trying_start, takes_all, trying_long, trying_level, trying_ready, trying_found, trying_on, trying_over, trying_next, trying_barred, skipped_on}
-use Rattle.foreseeing.proofs.Foreseen.{term_less}
-use Rattle.settling.proofs.Next.{left_proper, next_here}
-use Rattle.matching.proofs.Going.{Going, going_start, going_lost, going_ends, going_over, going_left, single_here, fresh_ready, fresh-seek, going_stuck, going_on}
-use Rattle.settling.proofs.Slots.{kept_self}
+use Rattle.matching.proofs.Lengths.{Trying}
+use Rattle.matching.proofs.Going.{Going}
 use lib.ListN.{length}
-use native.Mathlib.Omega.{arith}
-use Rattle.elements.proofs.Places.{proper_inside}
-use borrow.Author.Rules.{rules}
-use Prim.Native.Nat.{ℕ, ◌+◌, ◌-◌, ◌*◌, ◌<◌}
+use Prim.Native.Nat.{◌+◌, ◌-◌, ◌*◌}
 use Rattle.matching.proofs.+match_rest_try_lengths.Given as goal
 
 abbrev pub decreases-match_rest : goal.decreases-match_rest

@@ -1,5 +1,4 @@
 use Rattle.matching.proofs.Whole.{starting, matched}
-use borrow.Author.Rules.{rules}
 use Rattle.matching.proofs.match_left.Goals as goal
 
 pub match_rest-requires : goal.match_rest-requires

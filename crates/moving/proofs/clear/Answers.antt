@@ -1,8 +1,5 @@
-use Prim.Native.Nat.{◌≤◌, ◌-◌}
 use native.Mathlib.Omega.{arith}
-use lib.ListN.{replicate}
-use borrow.Author.Rules.{rules}
-use Rattle.moving.proofs.Moves.{Copied, cleared_none, cleared_more, cleared_all}
+use Rattle.moving.proofs.Moves.{cleared_none, cleared_more, cleared_all}
 use Rattle.moving.proofs.clear.Goals as goal
 
 pub loop-i-init : goal.loop-i-init

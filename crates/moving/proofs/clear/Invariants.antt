@@ -1,8 +1,6 @@
 use Prim.Native.Nat.{◌≤◌, ◌-◌}
-use native.Mathlib.Omega.{arith}
 use lib.ListN.{replicate}
-use borrow.Author.Rules.{rules}
-use Rattle.moving.proofs.Moves.{Copied, cleared_none, cleared_more, cleared_all}
+use Rattle.moving.proofs.Moves.{Copied}
 use Rattle.moving.proofs.clear.Given as goal
 
 abbrev pub invariant-loop-i : goal.invariant-loop-i

@@ -1,6 +1,5 @@
 use mathlib.Core.Path.{refl}
 use Rattle.moving.proofs.Moves.{closed}
-use borrow.Author.Rules.{rules}
 use Rattle.moving.proofs.close.Goals as goal
 
 pub returns : goal.returns

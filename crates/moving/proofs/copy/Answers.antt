@@ -1,8 +1,7 @@
-use Prim.Native.Nat.{◌-◌}
 use native.Mathlib.Omega.{arith}
-use lib.ListN.{drop, length-drop}
+use lib.ListN.{length-drop}
 use borrow.Author.Rules.{rules}
-use Rattle.moving.proofs.Moves.{Copied, copied_none, copied_from, copied_all}
+use Rattle.moving.proofs.Moves.{copied_none, copied_from, copied_all}
 use Rattle.moving.proofs.copy.Goals as goal
 
 pub loop-i-init : goal.loop-i-init

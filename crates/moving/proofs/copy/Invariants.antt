@@ -1,8 +1,6 @@
 use Prim.Native.Nat.{◌-◌}
-use native.Mathlib.Omega.{arith}
-use lib.ListN.{drop, length-drop}
-use borrow.Author.Rules.{rules}
-use Rattle.moving.proofs.Moves.{Copied, copied_none, copied_from, copied_all}
+use lib.ListN.{drop}
+use Rattle.moving.proofs.Moves.{Copied}
 use Rattle.moving.proofs.copy.Given as goal
 
 abbrev pub invariant-loop-i : goal.invariant-loop-i

@@ -1,7 +1,6 @@
 use native.Mathlib.Omega.{arith}
-use Prim.Native.Nat.{◌-◌}
-use lib.ListN.{drop, length-drop}
-use Rattle.moving.proofs.Moves.{Copied, copied_none, moved_from, copied_all, stayed}
+use lib.ListN.{length-drop}
+use Rattle.moving.proofs.Moves.{copied_none, moved_from, copied_all, stayed}
 use borrow.Author.Rules.{rules}
 use Rattle.moving.proofs.move_down.Goals as goal
 

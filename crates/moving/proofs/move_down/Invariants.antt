@@ -1,8 +1,6 @@
-use native.Mathlib.Omega.{arith}
 use Prim.Native.Nat.{◌-◌}
-use lib.ListN.{drop, length-drop}
-use Rattle.moving.proofs.Moves.{Copied, copied_none, moved_from, copied_all, stayed}
-use borrow.Author.Rules.{rules}
+use lib.ListN.{drop}
+use Rattle.moving.proofs.Moves.{Copied}
 use Rattle.moving.proofs.move_down.Given as goal
 
 abbrev pub invariant-loop-i : goal.invariant-loop-i

@@ -1,6 +1,6 @@
 use native.Mathlib.Omega.{arith}
 use mathlib.Core.Path.{refl}
-use Rattle.moving.proofs.Moves.{Raised, raised_none, raised_more, raised_all, stayed}
+use Rattle.moving.proofs.Moves.{raised_none, raised_more, raised_all, stayed}
 use borrow.Author.Rules.{rules}
 use Rattle.moving.proofs.move_up.Goals as goal
 

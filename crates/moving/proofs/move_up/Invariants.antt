@@ -1,7 +1,4 @@
-use native.Mathlib.Omega.{arith}
-use mathlib.Core.Path.{refl}
-use Rattle.moving.proofs.Moves.{Raised, raised_none, raised_more, raised_all, stayed}
-use borrow.Author.Rules.{rules}
+use Rattle.moving.proofs.Moves.{Raised}
 use Rattle.moving.proofs.move_up.Given as goal
 
 abbrev pub invariant-loop-i : goal.invariant-loop-i

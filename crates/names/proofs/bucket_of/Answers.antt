@@ -1,11 +1,6 @@
-use mathlib.Core.Path.{◌≡◌, ◌∙◌}
-use Prim.Native.Nat.{◌<◌, ◌-◌}
+use mathlib.Core.Path.{◌∙◌}
 use native.Mathlib.Omega.{arith}
-use lib.ListN.{length}
-use Rattle.names.specs.Names.{key_at}
-use Rattle.names.specs.Index.{bucket}
-use Rattle.names.proofs.Spelling.{hashed, tail_of_lem, hash_start, hash_end, hash_on, hash_out}
-use borrow.Author.Rules.{rules}
+use Rattle.names.proofs.Spelling.{tail_of_lem, hash_start, hash_end, hash_on, hash_out}
 use Rattle.names.proofs.bucket_of.Goals as goal
 
 pub overflow_cast-h : goal.overflow_cast-h
@@ -23,12 +18,11 @@ mix-h-requires c =
     c.loop-i.invariant.1
 
 pub loop-i-preserved : goal.loop-i-preserved
-loop-i-preserved c =
-    (
-      rw c.mix-h.ensures.0
-          (hash_on c.args.text.now _ _ (tail_of_lem _ _ c.spelling_of-x.ensures) c.if-x-eq0.false ∙ c.loop-i.invariant.0),
-      c.mix-h.ensures.1,
-    )
+loop-i-preserved c = (
+  rw c.mix-h.ensures.0
+      (hash_on c.args.text.now _ _ (tail_of_lem _ _ c.spelling_of-x.ensures) c.if-x-eq0.false ∙ c.loop-i.invariant.0),
+  c.mix-h.ensures.1,
+)
 
 pub returns : goal.returns
 returns c = (hash_out _ _ _ c.loop-i-test.false ∙ c.loop-i.invariant.0, c.loop-i.invariant.1)

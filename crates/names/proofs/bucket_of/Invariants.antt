@@ -1,11 +1,9 @@
-use mathlib.Core.Path.{◌≡◌, ◌∙◌}
+use mathlib.Core.Path.{◌≡◌}
 use Prim.Native.Nat.{◌<◌, ◌-◌}
-use native.Mathlib.Omega.{arith}
 use lib.ListN.{length}
 use Rattle.names.specs.Names.{key_at}
 use Rattle.names.specs.Index.{bucket}
-use Rattle.names.proofs.Spelling.{hashed, tail_of_lem, hash_start, hash_end, hash_on, hash_out}
-use borrow.Author.Rules.{rules}
+use Rattle.names.proofs.Spelling.{hashed}
 use Rattle.names.proofs.bucket_of.Given as goal
 
 abbrev pub invariant-loop-i : goal.invariant-loop-i

@@ -3,8 +3,7 @@ use Prim.Native.Nat.{◌-◌}
 use native.Mathlib.Omega.{arith}
 use Rattle.meaning.proofs.Truth.{same_eq}
 use Rattle.names.proofs.Numbers.{differ}
-use Rattle.names.proofs.Chains.{Walk, walk_start, walk_on, walk_found, walk_none}
-use borrow.Author.Rules.{rules}
+use Rattle.names.proofs.Chains.{walk_start, walk_on, walk_found, walk_none}
 use Rattle.names.proofs.find.Goals as goal
 
 pub bounds-heads-b : goal.bounds-heads-b

@@ -1,10 +1,4 @@
-use mathlib.Core.Path.{sym, ◌∙◌}
-use Prim.Native.Nat.{◌-◌}
-use native.Mathlib.Omega.{arith}
-use Rattle.meaning.proofs.Truth.{same_eq}
-use Rattle.names.proofs.Numbers.{differ}
-use Rattle.names.proofs.Chains.{Walk, walk_start, walk_on, walk_found, walk_none}
-use borrow.Author.Rules.{rules}
+use Rattle.names.proofs.Chains.{Walk}
 use Rattle.names.proofs.find.Given as goal
 
 abbrev pub invariant-loop-h : goal.invariant-loop-h

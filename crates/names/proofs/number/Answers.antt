@@ -1,5 +1,4 @@
 use Rattle.names.proofs.Chains.{numbered_new, numbered_old}
-use borrow.Author.Rules.{rules}
 use Rattle.names.proofs.number.Goals as goal
 
 pub returns-then-r-n : goal.returns-then-r-n

@@ -1,9 +1,6 @@
-use mathlib.Core.Path.{◌≡◌, refl, ◌∙◌}
-use Prim.Native.Nat.{◌+◌, ◌-◌, ◌≤◌}
+use mathlib.Core.Path.{refl, ◌∙◌}
 use native.Mathlib.Omega.{arith}
-use lib.ListN.{length}
-use Rattle.names.proofs.Spelling.{tail_of_lem, alike, alike_no, alike_yes, alike_on, alike_out, first_differs, by_tails}
-use borrow.Author.Rules.{rules}
+use Rattle.names.proofs.Spelling.{tail_of_lem, alike_no, alike_yes, alike_on, alike_out, first_differs, by_tails}
 use Rattle.names.proofs.same_name.Goals as goal
 
 pub returns-then-text-a : goal.returns-then-text-a
@@ -26,12 +23,11 @@ returns-then-x-eq0 c =
     c.if-x-eq0.true ∙ c.loop-i.invariant.0)
 
 pub loop-i-preserved : goal.loop-i-preserved
-loop-i-preserved c =
-    (
-      alike_on c.args.text.now _ _ (tail_of_lem _ _ c.spelled-x.ensures) (tail_of_lem _ _ c.spelled-y.ensures) c.if-x-y.false
-          c.if-x-eq0.false ∙ c.loop-i.invariant.0,
-      omega (arith, c.loop-i.invariant.1),
-    )
+loop-i-preserved c = (
+  alike_on c.args.text.now _ _ (tail_of_lem _ _ c.spelled-x.ensures) (tail_of_lem _ _ c.spelled-y.ensures) c.if-x-y.false
+      c.if-x-eq0.false ∙ c.loop-i.invariant.0,
+  omega (arith, c.loop-i.invariant.1),
+)
 
 pub returns : goal.returns
 returns c =

@@ -1,9 +1,7 @@
-use mathlib.Core.Path.{◌≡◌, refl, ◌∙◌}
+use mathlib.Core.Path.{◌≡◌}
 use Prim.Native.Nat.{◌+◌, ◌-◌, ◌≤◌}
-use native.Mathlib.Omega.{arith}
 use lib.ListN.{length}
-use Rattle.names.proofs.Spelling.{tail_of_lem, alike, alike_no, alike_yes, alike_on, alike_out, first_differs, by_tails}
-use borrow.Author.Rules.{rules}
+use Rattle.names.proofs.Spelling.{alike}
 use Rattle.names.proofs.same_name.Given as goal
 
 abbrev pub invariant-loop-i : goal.invariant-loop-i

@@ -1,5 +1,4 @@
 use Rattle.names.proofs.Spelling.{spelled_out}
-use borrow.Author.Rules.{rules}
 use Rattle.names.proofs.spelled.Goals as goal
 
 pub returns-then-text-i : goal.returns-then-text-i

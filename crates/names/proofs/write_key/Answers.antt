@@ -3,7 +3,6 @@ use lib.ListN.{length, length-set}
 use lib.Seq.{length-sets}
 use native.Mathlib.Omega.{arith}
 use Rattle.names.proofs.Writing.{key_room, key_put}
-use borrow.Author.Rules.{rules}
 use Rattle.names.proofs.write_key.Goals as goal
 
 pub bounds-list-at : goal.bounds-list-at

@@ -1,8 +1,6 @@
-use Rattle.names.proofs.Writing.{Written, written_none, written_more, written_all, cleared_long, key_short}
+use Rattle.names.proofs.Writing.{written_none, written_more, written_all, cleared_long, key_short}
 use mathlib.Core.Path.{◌∙◌}
-use Prim.Native.Nat.{◌-◌, ◌≤◌}
 use native.Mathlib.Omega.{arith}
-use borrow.Author.Rules.{rules}
 use Rattle.names.proofs.write_list.Goals as goal
 
 pub loop-k-init : goal.loop-k-init
@@ -25,12 +23,11 @@ write_key-requires c =
     )
 
 pub loop-k-preserved : goal.loop-k-preserved
-loop-k-preserved c =
-    (
-      written_more c.requires.1 (omega (arith, c.requires.2, cleared_long c.args.list.now c.clear.ensures)) _ c.loop-k-test.true c.loop-k.invariant.0
-          c.write_key.ensures,
-      omega arith,
-    )
+loop-k-preserved c = (
+  written_more c.requires.1 (omega (arith, c.requires.2, cleared_long c.args.list.now c.clear.ensures)) _ c.loop-k-test.true c.loop-k.invariant.0
+      c.write_key.ensures,
+  omega arith,
+)
 
 pub shape_of-list : goal.shape_of-list
 shape_of-list c =

@@ -1,8 +1,5 @@
-use Rattle.names.proofs.Writing.{Written, written_none, written_more, written_all, cleared_long, key_short}
-use mathlib.Core.Path.{◌∙◌}
+use Rattle.names.proofs.Writing.{Written}
 use Prim.Native.Nat.{◌-◌, ◌≤◌}
-use native.Mathlib.Omega.{arith}
-use borrow.Author.Rules.{rules}
 use Rattle.names.proofs.write_list.Given as goal
 
 abbrev pub invariant-loop-k : goal.invariant-loop-k

@@ -1,12 +1,8 @@
-use mathlib.Core.Path.{◌≡◌, refl}
-use Prim.Native.Nat.{◌-◌}
-use lib.ListN.{length, drop, length-set}
-use lib.Seq.{sets}
+use mathlib.Core.Path.{refl}
+use lib.ListN.{length-set}
 use Rattle.names.specs.Names.{}
-use Rattle.text.specs.Tokens.{tail_of}
 use Rattle.names.proofs.Spelling.{tail_of_lem}
-use Rattle.names.proofs.Writing.{Owes, owes_room, owes_more, owes_end, owes_out}
-use borrow.Author.Rules.{rules}
+use Rattle.names.proofs.Writing.{owes_room, owes_more, owes_end, owes_out}
 use Rattle.names.proofs.write_tail.Goals as goal
 
 pub loop-i-init : goal.loop-i-init

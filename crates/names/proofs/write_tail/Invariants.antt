@@ -1,12 +1,10 @@
-use mathlib.Core.Path.{◌≡◌, refl}
+use mathlib.Core.Path.{◌≡◌}
 use Prim.Native.Nat.{◌-◌}
-use lib.ListN.{length, drop, length-set}
+use lib.ListN.{length, drop}
 use lib.Seq.{sets}
 use Rattle.names.specs.Names.{}
 use Rattle.text.specs.Tokens.{tail_of}
-use Rattle.names.proofs.Spelling.{tail_of_lem}
-use Rattle.names.proofs.Writing.{Owes, owes_room, owes_more, owes_end, owes_out}
-use borrow.Author.Rules.{rules}
+use Rattle.names.proofs.Writing.{Owes}
 use Rattle.names.proofs.write_tail.Given as goal
 
 abbrev pub invariant-loop-i : goal.invariant-loop-i

@@ -1,7 +1,5 @@
 use mathlib.Core.Path.{refl, ◌∙◌, sym}
-use mathlib.Core.Logic.{inl, inr}
 use Rattle.putting.proofs.Making.{onward_as, enter_inside, enter_open, enter_shut, enter-part, enter_between, enter_header, fits_two}
-use borrow.Author.Rules.{rules}
 use Rattle.putting.proofs.enter.Goals as goal
 use Rattle.putting.proofs.enter.Goals.{then-reader-eq-BETWEEN+else-is_sign-2, else-reader-eq-BETWEEN}
 

@@ -1,6 +1,5 @@
 use borrow.Enum.Refused.{opened}
 use Rattle.putting.proofs.Making.{not_sign, is_the_sign}
-use borrow.Author.Rules.{rules}
 use Rattle.putting.proofs.is_sign.Goals as goal
 
 pub returns-in-Sign : goal.returns-in-Sign

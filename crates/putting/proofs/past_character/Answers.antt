@@ -1,6 +1,5 @@
 use Rattle.putting.specs.Putting.{past_character}
 use borrow.Author.Tests.{eq-eqb, ne_eqb}
-use borrow.Author.Rules.{rules}
 use Rattle.putting.proofs.past_character.Goals as goal
 
 pub returns-then-b-quote : goal.returns-then-b-quote

@@ -1,6 +1,5 @@
 use Rattle.putting.proofs.Putting.{put_made, ready_of, put_bad}
 use Rattle.putting.proofs.Writing.{filled_most}
-use borrow.Author.Rules.{rules}
 use Rattle.putting.proofs.put.Goals as goal
 
 pub take-taken-requires : goal.take-taken-requires

@@ -4,7 +4,6 @@ use native.Mathlib.Omega.{arith}
 use Rattle.meaning.specs.Elements.{body}
 use Rattle.putting.specs.Putting.{stops}
 use Rattle.putting.proofs.Making.{onward_as, brace_other, brace_right, brace_then}
-use borrow.Author.Rules.{rules}
 use Rattle.putting.proofs.put_brace.Goals as goal
 
 pub put-requires : goal.put-requires

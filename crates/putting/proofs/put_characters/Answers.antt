@@ -1,12 +1,10 @@
-use mathlib.Core.Path.{◌≡◌, refl, ◌∙◌}
-use Prim.Native.Nat.{◌-◌}
+use mathlib.Core.Path.{refl, ◌∙◌}
 use native.Mathlib.Omega.{arith}
-use lib.ListN.{length, get_or}
+use lib.ListN.{get_or}
 use Rattle.meaning.specs.Elements.{body}
-use Rattle.putting.specs.Putting.{Able, Going, Closes, elements_at, leads, stops}
+use Rattle.putting.specs.Putting.{leads, stops}
 use Rattle.putting.proofs.Putting.{going_from, going_able, led, barred}
 use Rattle.putting.proofs.Characters.{past_more, turn, turn_bad, turn_over}
-use borrow.Author.Rules.{rules}
 use Rattle.putting.proofs.put_characters.Goals as goal
 
 pub loop-i-init : goal.loop-i-init

@@ -1,12 +1,7 @@
-use mathlib.Core.Path.{◌≡◌, refl, ◌∙◌}
+use mathlib.Core.Path.{◌≡◌}
 use Prim.Native.Nat.{◌-◌}
-use native.Mathlib.Omega.{arith}
-use lib.ListN.{length, get_or}
-use Rattle.meaning.specs.Elements.{body}
-use Rattle.putting.specs.Putting.{Able, Going, Closes, elements_at, leads, stops}
-use Rattle.putting.proofs.Putting.{going_from, going_able, led, barred}
-use Rattle.putting.proofs.Characters.{past_more, turn, turn_bad, turn_over}
-use borrow.Author.Rules.{rules}
+use lib.ListN.{length}
+use Rattle.putting.specs.Putting.{Able, Going, Closes, elements_at}
 use Rattle.putting.proofs.put_characters.Given as goal
 
 abbrev pub invariant-loop-i : goal.invariant-loop-i

@@ -1,7 +1,6 @@
 use borrow.Enum.Refused.{opened}
 use Rattle.meaning.specs.Elements.{body}
 use Rattle.putting.proofs.Making.{onward_as, heads, heads_none, not_name, name_heads}
-use borrow.Author.Rules.{rules}
 use Rattle.putting.proofs.put_header.Goals as goal
 
 pub put-requires : goal.put-requires

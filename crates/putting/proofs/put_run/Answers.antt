@@ -1,10 +1,8 @@
-use mathlib.Core.Path.{◌≡◌, refl, ◌∙◌}
-use Prim.Native.Nat.{◌+◌, ◌-◌, ◌*◌, ◌≤◌, ◌<◌}
+use mathlib.Core.Path.{refl, ◌∙◌}
+use Prim.Native.Nat.{◌+◌, ◌*◌, ◌<◌}
 use native.Mathlib.Omega.{arith}
-use lib.ListN.{length, get_or, length-set}
-use Rattle.putting.specs.Putting.{Runs, further_by}
+use lib.ListN.{get_or, length-set}
 use Rattle.putting.proofs.Characters.{plain_more, runs_none, in_side, runs_from, lengths}
-use borrow.Author.Rules.{rules}
 use Rattle.putting.proofs.put_run.Goals as goal
 
 pub returns-then-state-lt-LEFT : goal.returns-then-state-lt-LEFT

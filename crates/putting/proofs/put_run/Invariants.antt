@@ -1,10 +1,7 @@
-use mathlib.Core.Path.{◌≡◌, refl, ◌∙◌}
-use Prim.Native.Nat.{◌+◌, ◌-◌, ◌*◌, ◌≤◌, ◌<◌}
-use native.Mathlib.Omega.{arith}
-use lib.ListN.{length, get_or, length-set}
+use mathlib.Core.Path.{◌≡◌}
+use Prim.Native.Nat.{◌+◌, ◌-◌, ◌≤◌}
+use lib.ListN.{length}
 use Rattle.putting.specs.Putting.{Runs, further_by}
-use Rattle.putting.proofs.Characters.{plain_more, runs_none, in_side, runs_from, lengths}
-use borrow.Author.Rules.{rules}
 use Rattle.putting.proofs.put_run.Given as goal
 
 abbrev pub invariant-loop-k : goal.invariant-loop-k

@@ -2,7 +2,6 @@ use native.Mathlib.Omega.{arith}
 use Rattle.meaning.specs.Elements.{body}
 use Rattle.text.specs.Reading.{signed}
 use Rattle.putting.proofs.Making.{onward_as, sign_one, sign_brace, sign_none}
-use borrow.Author.Rules.{rules}
 use Rattle.putting.proofs.put_sign.Goals as goal
 
 pub put-requires : goal.put-requires

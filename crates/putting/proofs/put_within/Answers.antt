@@ -3,7 +3,6 @@ use Rattle.tokens.specs.Lexemes.{token_of}
 use lib.ListN.{get_or}
 use Rattle.text.specs.Reading.{within}
 use Rattle.putting.proofs.Making.{onward_as, makes, makes_none, makes_sign, closes, entered_as, body_type}
-use borrow.Author.Rules.{rules}
 use Rattle.putting.proofs.put_within.Goals as goal
 
 pub put-requires : goal.put-requires

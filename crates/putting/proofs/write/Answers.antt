@@ -2,7 +2,6 @@ use lib.ListN.{length-set}
 use mathlib.Core.Path.{◌∙◌}
 use native.Mathlib.Omega.{arith}
 use Rattle.putting.proofs.Writing.{written_over, written_fits}
-use borrow.Author.Rules.{rules}
 use Rattle.putting.proofs.write.Goals as goal
 
 pub returns-then-buf-len : goal.returns-then-buf-len

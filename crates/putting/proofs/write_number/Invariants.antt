@@ -1,11 +1,8 @@
-use Rattle.putting.proofs.Writing.{digits-begin, digit_on, digit_out}
-use mathlib.Core.Path.{◌≡◌, refl, ◌∙◌}
+use mathlib.Core.Path.{◌≡◌}
 use Prim.Native.Nat.{◌+◌, ◌-◌}
-use native.Mathlib.Omega.{arith}
-use lib.ListN.{length, length-set}
+use lib.ListN.{length}
 use lib.Seq.{sets}
 use Rattle.elements.specs.Bytes.{digits}
-use borrow.Author.Rules.{rules}
 use Rattle.putting.proofs.write_number.Given as goal
 
 abbrev pub invariant-loop-i : goal.invariant-loop-i

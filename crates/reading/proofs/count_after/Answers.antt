@@ -1,5 +1,4 @@
 use borrow.Author.Tests.{eq-eqb, ne_eqb}
-use borrow.Author.Rules.{rules}
 use Rattle.reading.proofs.count_after.Goals as goal
 
 pub returns-then-number-n : goal.returns-then-number-n

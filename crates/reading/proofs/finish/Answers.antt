@@ -2,7 +2,6 @@ use native.Mathlib.Omega.{arith}
 use Rattle.meaning.specs.Elements.{body}
 use Rattle.putting.proofs.Putting.{led, barred}
 use Rattle.reading.proofs.Saying.{finish_owed, finish_early, finish_good}
-use borrow.Author.Rules.{rules}
 use Rattle.reading.proofs.finish.Goals as goal
 
 pub returns-then-reader-eq-OWED : goal.returns-then-reader-eq-OWED

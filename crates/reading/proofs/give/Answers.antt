@@ -1,7 +1,6 @@
 use mathlib.Core.Path.{◌∙◌}
 use Rattle.reading.proofs.Giving.{no_program, no_list, given, refused_is}
 use native.Mathlib.Omega.{arith}
-use borrow.Author.Rules.{rules}
 use Rattle.reading.proofs.give.Goals as goal
 
 pub overflow_mul-size : goal.overflow_mul-size

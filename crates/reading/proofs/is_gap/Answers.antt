@@ -1,6 +1,5 @@
 use borrow.Enum.Refused.{opened}
 use Rattle.reading.proofs.Saying.{not_gap}
-use borrow.Author.Rules.{rules}
 use Rattle.reading.proofs.is_gap.Goals as goal
 
 pub returns-in_default : goal.returns-in_default

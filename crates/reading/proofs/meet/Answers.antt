@@ -2,7 +2,6 @@ use borrow.Enum.Refused.{opened}
 use native.Mathlib.Omega.{arith}
 use Rattle.names.specs.Names.{key_at}
 use Rattle.reading.proofs.Meeting.{met_as_name, met_as_call, met_as_variable, met_as_other, variables_few, names_fit, calls_fit, proper_as}
-use borrow.Author.Rules.{rules}
 use Rattle.reading.proofs.meet.Goals as goal
 
 pub meet_name-requires : goal.meet_name-requires

@@ -1,6 +1,5 @@
 use native.Mathlib.Omega.{arith}
 use Rattle.reading.proofs.Meeting.{name_numbered}
-use borrow.Author.Rules.{rules}
 use Rattle.reading.proofs.meet_name.Goals as goal
 
 pub number-number-requires : goal.number-number-requires

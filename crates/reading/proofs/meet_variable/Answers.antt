@@ -1,6 +1,5 @@
 use Rattle.reading.proofs.Meeting.{variable_small, variable_numbered}
 use native.Mathlib.Omega.{arith}
-use borrow.Author.Rules.{rules}
 use Rattle.reading.proofs.meet_variable.Goals as goal
 
 pub number-v-requires : goal.number-v-requires

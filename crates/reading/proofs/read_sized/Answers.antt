@@ -2,7 +2,6 @@ use mathlib.Core.Path.{refl, ◌∙◌}
 use Prim.Native.Nat.{ℕ}
 use lib.ListN.{length-replicate}
 use Rattle.reading.proofs.Giving.{refused_is, given-said, given_places, bad_said}
-use borrow.Author.Rules.{rules}
 use Rattle.reading.proofs.read_sized.Goals as goal
 
 pub say-requires : goal.say-requires

@@ -1,11 +1,10 @@
-use mathlib.Core.Path.{◌≡◌, refl, sym, ◌∙◌}
-use Prim.Native.Nat.{ℕ, ◌-◌}
+use mathlib.Core.Path.{refl, sym, ◌∙◌}
+use Prim.Native.Nat.{ℕ}
 use native.Mathlib.Omega.{arith}
-use lib.ListN.{length, length-replicate}
+use lib.ListN.{length-replicate}
 use Rattle.putting.proofs.Putting.{led, barred}
 use Rattle.reading.specs.Reading.{bad}
-use Rattle.reading.proofs.Saying.{Reads, reads_first, reads_able, reads_gap, known_able, known_entered, turn_bad, turn, saying_end}
-use borrow.Author.Rules.{rules}
+use Rattle.reading.proofs.Saying.{reads_first, reads_able, reads_gap, known_able, known_entered, turn_bad, turn, saying_end}
 use Rattle.reading.proofs.say.Goals as goal
 
 pub loop-at-init : goal.loop-at-init
@@ -91,8 +90,7 @@ loop-at-smaller c =
 
 pub loop-at-preserved : goal.loop-at-preserved
 loop-at-preserved c =
-    let (R, f, h, l, b, k4) = c.loop-at.invariant in
-    (
+    let (R, f, h, l, b, k4) = c.loop-at.invariant in (
       turn R c.lex-lexeme.result c.lex-lexeme.ensures c.loop-at-test.true (sym c.is_gap.ensures ∙ c.if-is_gap.false) c.meet-met.ensures
           (led c.enter.ensures c.in-Good.is) (
             c.meet-met.auto.firsts,

@@ -1,11 +1,7 @@
-use mathlib.Core.Path.{◌≡◌, refl, sym, ◌∙◌}
-use Prim.Native.Nat.{ℕ, ◌-◌}
-use native.Mathlib.Omega.{arith}
-use lib.ListN.{length, length-replicate}
-use Rattle.putting.proofs.Putting.{led, barred}
-use Rattle.reading.specs.Reading.{bad}
-use Rattle.reading.proofs.Saying.{Reads, reads_first, reads_able, reads_gap, known_able, known_entered, turn_bad, turn, saying_end}
-use borrow.Author.Rules.{rules}
+use mathlib.Core.Path.{◌≡◌}
+use Prim.Native.Nat.{◌-◌}
+use lib.ListN.{length}
+use Rattle.reading.proofs.Saying.{Reads}
 use Rattle.reading.proofs.say.Given as goal
 
 abbrev pub invariant-loop-at : goal.invariant-loop-at

@@ -1,6 +1,5 @@
 use native.Mathlib.Omega.{arith}
 use Rattle.running.proofs.Start.{two_sizes}
-use borrow.Author.Rules.{rules}
 use Rattle.running.proofs.run_good.Goals as goal
 
 pub run_noting-requires-2 : goal.run_noting-requires-2

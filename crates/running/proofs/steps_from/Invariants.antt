@@ -1,14 +1,10 @@
-use mathlib.Core.Path.{◌≡◌, refl, ◌∙◌}
+use mathlib.Core.Path.{◌≡◌}
 use Prim.Native.Nat.{◌-◌}
-use native.Mathlib.Omega.{arith}
 use lib.ListN.{length}
-use borrow.Author.Tests.{not-true, not-false}
-use borrow.Author.Rules.{rules}
 use Rattle.meaning.specs.Machine.{run}
 use Rattle.scanning.specs.State.{field_at}
 use Rattle.choosing.specs.Choose.{rest_of, Cache}
 use Rattle.running.specs.Running.{Between}
-use Rattle.running.proofs.Loop.{same-run, between_start, end_done, end_paused, stuck_from, next_from, halted_as}
 use Rattle.running.proofs.steps_from.Given as goal
 
 abbrev pub invariant-loop-s : goal.invariant-loop-s

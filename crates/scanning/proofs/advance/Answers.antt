@@ -1,10 +1,7 @@
 use borrow.Author.Tests.{not-true, not-false}
-use Rattle.scanning.proofs.Scan.{yes_no, Advancing, advanced, reached_open, in_field}
+use Rattle.scanning.proofs.Scan.{yes_no, advanced, reached_open, in_field}
 use mathlib.Core.Path.{refl, ◌∙◌}
-use Prim.Native.Nat.{◌-◌}
-use lib.ListN.{length}
 use native.Mathlib.Omega.{arith}
-use borrow.Author.Rules.{rules}
 use Rattle.scanning.proofs.advance.Goals as goal
 
 pub loop-mark-init : goal.loop-mark-init

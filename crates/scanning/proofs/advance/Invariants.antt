@@ -1,10 +1,6 @@
-use borrow.Author.Tests.{not-true, not-false}
-use Rattle.scanning.proofs.Scan.{yes_no, Advancing, advanced, reached_open, in_field}
-use mathlib.Core.Path.{refl, ◌∙◌}
+use Rattle.scanning.proofs.Scan.{Advancing}
 use Prim.Native.Nat.{◌-◌}
 use lib.ListN.{length}
-use native.Mathlib.Omega.{arith}
-use borrow.Author.Rules.{rules}
 use Rattle.scanning.proofs.advance.Given as goal
 
 abbrev pub invariant-loop-mark : goal.invariant-loop-mark

@@ -1,10 +1,7 @@
 use mathlib.Core.Path.{refl, sym, ◌∙◌}
-use Prim.Native.Nat.{◌-◌}
 use native.Mathlib.Omega.{arith}
-use lib.ListN.{length}
-use borrow.Author.Rules.{rules}
 use Rattle.elements.proofs.Levels.{characters_on}
-use Rattle.scanning.proofs.Scan.{Seeking, here_open, here_close, seek_next, seek_on, seek_end}
+use Rattle.scanning.proofs.Scan.{here_open, here_close, seek_next, seek_on, seek_end}
 use Rattle.scanning.proofs.next_bracket.Goals as goal
 
 pub loop-c-init : goal.loop-c-init

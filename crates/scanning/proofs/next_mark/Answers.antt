@@ -2,7 +2,6 @@ use native.Mathlib.Omega.{arith}
 use Rattle.scanning.proofs.Scan.{may_read, from_notes, at_most, none_left, read_on}
 use mathlib.Core.Path.{refl}
 use Rattle.meaning.proofs.Truth.{never}
-use borrow.Author.Rules.{rules}
 use Rattle.scanning.proofs.next_mark.Goals as goal
 
 pub overflow_cast-result : goal.overflow_cast-result
@@ -17,17 +16,16 @@ pub next_bracket-at-requires : goal.next_bracket-at-requires
 next_bracket-at-requires c = record { at_in_bounds = (may_read _ _ _ _ _ _ _ c.requires.good c.requires.standing).0; field_len_bound = c.requires.field_len_bound.0; whole = (may_read _ _ _ _ _ _ _ c.requires.good c.requires.standing).1 }
 
 pub returns-then-at-field : goal.returns-then-at-field
-returns-then-at-field c =
-    (
-      refl,
-      refl,
-      refl,
-      record {
-        yes = λ z. never (cc);
-        no = λ _. none_left _ _ _ _ _ _ _ c.requires.good c.requires.standing c.if-top-calls.false _ c.next_bracket-at.ensures
-            c.if-at-field.true;
-      },
-    )
+returns-then-at-field c = (
+  refl,
+  refl,
+  refl,
+  record {
+    yes = λ z. never (cc);
+    no = λ _. none_left _ _ _ _ _ _ _ c.requires.good c.requires.standing c.if-top-calls.false _ c.next_bracket-at.ensures
+        c.if-at-field.true;
+  },
+)
 
 pub pass-passed-requires : goal.pass-passed-requires
 pass-passed-requires c =
@@ -35,14 +33,13 @@ pass-passed-requires c =
     omega (arith, c.if-at-field.false)
 
 pub returns : goal.returns
-returns c =
-    (
-      refl,
-      refl,
-      refl,
-      record {
-        yes = λ _. read_on _ _ _ _ _ _ _ c.requires.good c.requires.standing c.if-top-calls.false _ c.next_bracket-at.ensures c.if-at-field.false
-            c.requires.field_len_bound.1 _ c.pass-passed.ensures.next_is;
-        no = λ z. never (cc);
-      },
-    )
+returns c = (
+  refl,
+  refl,
+  refl,
+  record {
+    yes = λ _. read_on _ _ _ _ _ _ _ c.requires.good c.requires.standing c.if-top-calls.false _ c.next_bracket-at.ensures c.if-at-field.false
+        c.requires.field_len_bound.1 _ c.pass-passed.ensures.next_is;
+    no = λ z. never (cc);
+  },
+)

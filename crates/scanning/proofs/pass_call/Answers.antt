@@ -1,7 +1,6 @@
 use native.Mathlib.Omega.{arith}
 use Rattle.scanning.proofs.Scan.{may_move, may_note, in_notes, open_same, open_more, open_good, open_standing}
 use mathlib.Core.Path.{refl}
-use borrow.Author.Rules.{rules}
 use Rattle.scanning.proofs.pass_call.Goals as goal
 
 pub move_down-requires : goal.move_down-requires

@@ -1,5 +1,4 @@
 use Rattle.settling.proofs.Ends.{part_there, part_elsewhere}
-use borrow.Author.Rules.{rules}
 use Rattle.settling.proofs.element_end.Goals as goal
 
 pub returns-then-stands_at : goal.returns-then-stands_at

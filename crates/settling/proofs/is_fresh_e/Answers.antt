@@ -1,6 +1,5 @@
 use Rattle.settling.proofs.Ends.{fresh-told}
 use native.Mathlib.Omega.{arith}
-use borrow.Author.Rules.{rules}
 use Rattle.settling.proofs.is_fresh_e.Goals as goal
 
 pub returns : goal.returns

@@ -38,11 +38,10 @@ bounds-binds-slot-then-has c =
 
 pub element_end-requires-then-slot-lt-T_SLOTS : goal.element_end-requires-then-slot-lt-T_SLOTS
 unfolding value_of
-element_end-requires-then-slot-lt-T_SLOTS c =
-    (
-      let h = held_there c.requires c.if-slot-eq-SLOTS.false (sym c.has.ensures ∙ c.if-has.true) in record { on = h.0; fits = h.1; proper = h.2 },
-      c.requires.ready.arg_fits,
-    )
+element_end-requires-then-slot-lt-T_SLOTS c = (
+  let h = held_there c.requires c.if-slot-eq-SLOTS.false (sym c.has.ensures ∙ c.if-has.true) in record { on = h.0; fits = h.1; proper = h.2 },
+  c.requires.ready.arg_fits,
+)
 
 pub returns-then-slot-lt-T_SLOTS : goal.returns-then-slot-lt-T_SLOTS
 unfolding value_of

@@ -2,7 +2,6 @@ use Rattle.settling.specs.Values.{as_before, noted, noting}
 use lib.ListN.{length-set}
 use native.Mathlib.Omega.{arith}
 use mathlib.Core.Path.{refl, sym, ◌∙◌}
-use borrow.Author.Rules.{rules}
 use Rattle.settling.proofs.settle.Goals as goal
 
 pub returns-then-slot-eq-SLOTS : goal.returns-then-slot-eq-SLOTS

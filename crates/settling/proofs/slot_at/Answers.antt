@@ -1,6 +1,5 @@
 use Rattle.settling.proofs.Next.{slot_fixed, named_at, slot_named}
 use native.Mathlib.Omega.{arith}
-use borrow.Author.Rules.{rules}
 use Rattle.settling.proofs.slot_at.Goals as goal
 
 pub returns-then-kind-lt-S_VARIABLE : goal.returns-then-kind-lt-S_VARIABLE
@@ -11,12 +10,11 @@ bounds-left-at c =
     (named_at c.requires.0 (omega (arith, c.requires.1))).long
 
 pub slot-requires : goal.slot-requires
-slot-requires c =
-    (
-      omega arith,
-      omega (arith, c.requires.1, (named_at c.requires.0 (omega (arith, c.requires.1))).v.high),
-      (named_at c.requires.0 (omega (arith, c.requires.1))).v.small,
-    )
+slot-requires c = (
+  omega arith,
+  omega (arith, c.requires.1, (named_at c.requires.0 (omega (arith, c.requires.1))).v.high),
+  (named_at c.requires.0 (omega (arith, c.requires.1))).v.small,
+)
 
 pub returns : goal.returns
 returns c =

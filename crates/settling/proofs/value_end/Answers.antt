@@ -1,7 +1,6 @@
 use Rattle.settling.proofs.Ends.{value_long, value_there, value_elsewhere}
 use native.Mathlib.Omega.{arith}
 use mathlib.Core.Path.{refl}
-use borrow.Author.Rules.{rules}
 use Rattle.settling.proofs.value_end.Goals as goal
 
 pub returns-then-arg-at : goal.returns-then-arg-at

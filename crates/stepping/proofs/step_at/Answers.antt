@@ -1,5 +1,4 @@
 use native.Mathlib.Omega.{arith}
-use borrow.Author.Rules.{rules}
 use Rattle.stepping.proofs.Term.{places}
 use Rattle.stepping.proofs.Step.{stays_3}
 use Rattle.stepping.proofs.step_at.Goals as goal

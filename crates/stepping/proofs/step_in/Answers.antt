@@ -1,5 +1,4 @@
 use native.Mathlib.Omega.{arith}
-use borrow.Author.Rules.{rules}
 use borrow.Author.Tests.{not-true, not-false}
 use Rattle.stepping.proofs.Term.{places, arg_balanced}
 use Rattle.stepping.proofs.Step.{place, sd, stays_2, stays_4, in_given, start_in, in_count, in_done}

@@ -1,5 +1,4 @@
 use Rattle.taking.proofs.Opens.{close_some, one_opens, one_closes, none_moves}
-use borrow.Author.Rules.{rules}
 use Rattle.taking.proofs.brackets_after.Goals as goal
 
 pub overflow_sub-result : goal.overflow_sub-result

@@ -1,6 +1,5 @@
 use native.Mathlib.Omega.{arith}
 use Rattle.taking.proofs.Tests.{told, count_end, count_side, count_idle}
-use borrow.Author.Rules.{rules}
 use Rattle.taking.proofs.count_after.Goals as goal
 
 pub returns-then-ends_side : goal.returns-then-ends_side

@@ -1,4 +1,3 @@
-use borrow.Author.Rules.{rules}
 use Rattle.taking.specs.Standing.{tests_of}
 use Rattle.taking.proofs.Tests.{fails, passes, stands_no, stands_yes, told}
 use Rattle.taking.proofs.fault_of.Goals as goal

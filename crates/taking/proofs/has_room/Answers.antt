@@ -1,5 +1,4 @@
 use Rattle.taking.proofs.Tests.{told, room_end, room_field, room_else}
-use borrow.Author.Rules.{rules}
 use Rattle.taking.proofs.has_room.Goals as goal
 
 pub returns-then-ends_side : goal.returns-then-ends_side

@@ -1,6 +1,5 @@
 use native.Mathlib.Omega.{arith}
 use Rattle.taking.proofs.Tests.{fresh_plain, fresh_high, fresh-not, told}
-use borrow.Author.Rules.{rules}
 use Rattle.meaning.specs.Elements.{is_variable}
 use Rattle.meaning.specs.Goodness.{span}
 use Rattle.meaning.proofs.Truth.{span_le}

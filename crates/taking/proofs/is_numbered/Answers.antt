@@ -1,5 +1,4 @@
 use Rattle.taking.proofs.Tests.{told, numbered_var, numbered_plain}
-use borrow.Author.Rules.{rules}
 use Rattle.meaning.specs.Elements.{is_variable}
 use Rattle.meaning.specs.Goodness.{span}
 use Rattle.taking.proofs.is_numbered.Goals as goal

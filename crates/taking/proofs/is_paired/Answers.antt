@@ -1,6 +1,5 @@
 use mathlib.Core.Logic.{⊎_elim}
 use native.Mathlib.Omega.{arith}
-use borrow.Author.Rules.{rules}
 use Rattle.taking.proofs.Opens.{paired_close, paired_none, paired_some}
 use Rattle.taking.proofs.is_paired.Goals as goal
 

@@ -1,6 +1,5 @@
 use mathlib.Core.Path.{◌∙◌}
 use Rattle.taking.proofs.Tests.{side_field, side_else}
-use borrow.Author.Rules.{rules}
 use Rattle.taking.proofs.is_side.Goals as goal
 
 pub returns-then-part-eq-FIELD : goal.returns-then-part-eq-FIELD

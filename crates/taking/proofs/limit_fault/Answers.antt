@@ -1,6 +1,4 @@
-use mathlib.Core.Path.{refl}
 use Rattle.taking.proofs.Tests.{limits_full, limits_old, limits_right, limits_left, limits_many, told}
-use borrow.Author.Rules.{rules}
 use Rattle.taking.proofs.limit_fault.Goals as goal
 
 pub returns-then-not-has_room : goal.returns-then-not-has_room

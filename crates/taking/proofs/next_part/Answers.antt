@@ -1,5 +1,4 @@
 use native.Mathlib.Omega.{arith}
-use borrow.Author.Rules.{rules}
 use Rattle.taking.specs.Standing.{part_of}
 use Rattle.taking.proofs.Parts.{digit, next_small}
 use Rattle.taking.proofs.next_part.Goals as goal

@@ -1,6 +1,5 @@
 use native.Mathlib.Omega.{arith}
 use Rattle.taking.proofs.Tests.{moved_out, moved_old, moved_new, told}
-use borrow.Author.Rules.{rules}
 use Rattle.taking.proofs.state_after.Goals as goal
 
 pub returns-then-not-between : goal.returns-then-not-between

@@ -1,5 +1,4 @@
 use Rattle.kinds.proofs.Stacks.{top_none, top_some}
-use borrow.Author.Rules.{rules}
 use Rattle.taking.proofs.top_of.Goals as goal
 
 pub returns-then-depth-eq0 : goal.returns-then-depth-eq0

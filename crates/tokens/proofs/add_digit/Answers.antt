@@ -1,5 +1,4 @@
 use Rattle.tokens.proofs.Digits.{over_by, under_by}
-use borrow.Author.Rules.{rules}
 use Rattle.tokens.proofs.add_digit.Goals as goal
 
 pub returns-then-w-gt4294967295 : goal.returns-then-w-gt4294967295

@@ -1,5 +1,4 @@
 use Rattle.tokens.proofs.Lexing.{tells, tells_wrong, call_none, call_some}
-use borrow.Author.Rules.{rules}
 use Rattle.tokens.proofs.call.Goals as goal
 
 pub returns-then-end-at : goal.returns-then-end-at

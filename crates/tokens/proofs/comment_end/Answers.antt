@@ -1,10 +1,5 @@
-use mathlib.Core.Logic.{inl, inr}
-use mathlib.Core.Path.{◌≡◌, refl, ◌∙◌}
-use mathlib.Core.Bool.{false}
-use Prim.Native.Nat.{◌-◌}
-use lib.ListN.{length}
-use Rattle.tokens.proofs.Comments.{Past, past-free, past_other, past_end, past_out}
-use borrow.Author.Rules.{rules}
+use mathlib.Core.Path.{refl, ◌∙◌}
+use Rattle.tokens.proofs.Comments.{past-free, past_other, past_end, past_out}
 use Rattle.tokens.proofs.comment_end.Goals as goal
 use Rattle.tokens.proofs.comment_end.Goals.{then-held+else-b-eq47, else-held}
 

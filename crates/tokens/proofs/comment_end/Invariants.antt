@@ -1,10 +1,8 @@
-use mathlib.Core.Logic.{inl, inr}
-use mathlib.Core.Path.{◌≡◌, refl, ◌∙◌}
+use mathlib.Core.Path.{◌≡◌}
 use mathlib.Core.Bool.{false}
 use Prim.Native.Nat.{◌-◌}
 use lib.ListN.{length}
-use Rattle.tokens.proofs.Comments.{Past, past-free, past_other, past_end, past_out}
-use borrow.Author.Rules.{rules}
+use Rattle.tokens.proofs.Comments.{Past}
 use Rattle.tokens.proofs.comment_end.Given as goal
 
 abbrev pub invariant-loop-i : goal.invariant-loop-i

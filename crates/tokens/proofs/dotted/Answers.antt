@@ -5,7 +5,6 @@ use Rattle.text.specs.Classes.{front, in_name}
 use Rattle.tokens.proofs.Lexing.{by_span, tells, tells_wrong, run_first, dot_none, dot_number, dot_long, dot_letter, dot_other}
 use native.Mathlib.Omega.{arith}
 use Rattle.classes.proofs.Runs.{run_most}
-use borrow.Author.Rules.{rules}
 use Rattle.tokens.proofs.dotted.Goals as goal
 
 pub returns-then-end-start : goal.returns-then-end-start

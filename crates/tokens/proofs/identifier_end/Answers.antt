@@ -1,5 +1,4 @@
 use Rattle.tokens.proofs.Lexing.{ends_out, ends_other, ends_name, ends_long}
-use borrow.Author.Rules.{rules}
 use Rattle.tokens.proofs.identifier_end.Goals as goal
 
 pub returns-then-s-at : goal.returns-then-s-at

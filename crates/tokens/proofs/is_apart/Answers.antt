@@ -1,5 +1,4 @@
 use Rattle.tokens.proofs.Lexing.{apart_out, apart_type, apart_low, apart_high}
-use borrow.Author.Rules.{rules}
 use Rattle.tokens.proofs.is_apart.Goals as goal
 
 pub returns-then-s-at : goal.returns-then-s-at

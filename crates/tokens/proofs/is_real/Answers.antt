@@ -1,6 +1,4 @@
-use mathlib.Core.Logic.{inl, inr}
 use Rattle.tokens.proofs.Comments.{real_out, real_last, real_no, real_dot, real_power}
-use borrow.Author.Rules.{rules}
 use Rattle.tokens.proofs.is_real.Goals as goal
 use Rattle.tokens.proofs.is_real.Goals.{then-mark-ne46+else-mark-ne69, else-mark-ne46}
 

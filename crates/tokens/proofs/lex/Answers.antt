@@ -3,7 +3,6 @@ use Rattle.tokens.specs.Lexemes.{token_of, lexeme_of}
 use Rattle.tokens.specs.declared.Token.TheVariants as T
 use Rattle.classes.proofs.Runs.{of_eq}
 use Rattle.tokens.proofs.Lexing.{tells_wrong, tells_as, one_byte, lex_blank, lex_slash, lex_name, lex_variable, lex-number, lex_string, lex_sign, lex-call, lex_star, lex_end, lex_other}
-use borrow.Author.Rules.{rules}
 use Rattle.tokens.proofs.lex.Goals as goal
 
 pub number-requires : goal.number-requires

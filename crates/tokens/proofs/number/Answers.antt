@@ -1,5 +1,4 @@
 use Rattle.tokens.proofs.Lexing.{tells, tells_wrong, number-real, number_over, number_some}
-use borrow.Author.Rules.{rules}
 use Rattle.tokens.proofs.number.Goals as goal
 
 pub returns-then-is_real : goal.returns-then-is_real

@@ -1,8 +1,5 @@
-use mathlib.Core.Path.{◌≡◌, refl, ◌∙◌}
-use Prim.Native.Nat.{◌-◌, ◌≤◌, ◌<◌}
+use mathlib.Core.Path.{refl, ◌∙◌}
 use native.Mathlib.Omega.{arith}
-use lib.ListN.{take, drop}
-use Rattle.text.specs.Tokens.{trim}
 use Rattle.tokens.proofs.Digits.{zero_on, zero_stop, zero_last}
 use borrow.Author.Rules.{rules}
 use Rattle.tokens.proofs.past_zeros.Goals as goal

@@ -1,10 +1,7 @@
-use mathlib.Core.Path.{◌≡◌, refl, ◌∙◌}
+use mathlib.Core.Path.{◌≡◌}
 use Prim.Native.Nat.{◌-◌, ◌≤◌, ◌<◌}
-use native.Mathlib.Omega.{arith}
 use lib.ListN.{take, drop}
 use Rattle.text.specs.Tokens.{trim}
-use Rattle.tokens.proofs.Digits.{zero_on, zero_stop, zero_last}
-use borrow.Author.Rules.{rules}
 use Rattle.tokens.proofs.past_zeros.Given as goal
 
 abbrev pub invariant-loop-i : goal.invariant-loop-i

@@ -1,8 +1,5 @@
-use mathlib.Core.Path.{◌≡◌, refl}
-use mathlib.Core.Bool.{false}
-use Prim.Native.Nat.{◌-◌, ◌≤◌}
-use lib.ListN.{length}
-use Rattle.tokens.proofs.Strings.{Closing, turn_held, turn_free, turn_on, end_held, end_line, end_out, end_open}
+use mathlib.Core.Path.{refl}
+use Rattle.tokens.proofs.Strings.{turn_held, turn_free, turn_on, end_held, end_line, end_out, end_open}
 use borrow.Author.Rules.{rules}
 use Rattle.tokens.proofs.quoted_from.Goals as goal
 

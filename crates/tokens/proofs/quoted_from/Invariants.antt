@@ -1,9 +1,8 @@
-use mathlib.Core.Path.{◌≡◌, refl}
+use mathlib.Core.Path.{◌≡◌}
 use mathlib.Core.Bool.{false}
 use Prim.Native.Nat.{◌-◌, ◌≤◌}
 use lib.ListN.{length}
-use Rattle.tokens.proofs.Strings.{Closing, turn_held, turn_free, turn_on, end_held, end_line, end_out, end_open}
-use borrow.Author.Rules.{rules}
+use Rattle.tokens.proofs.Strings.{Closing}
 use Rattle.tokens.proofs.quoted_from.Given as goal
 
 abbrev pub invariant-loop-i : goal.invariant-loop-i

@@ -1,6 +1,5 @@
 use mathlib.Core.Path.{sym, ◌∙◌}
 use Rattle.tokens.proofs.Lexing.{tells, tells_wrong, slashed_out, slashed_other, slashed_none, slashed_some}
-use borrow.Author.Rules.{rules}
 use Rattle.tokens.proofs.slashed.Goals as goal
 
 pub returns-then-s-at : goal.returns-then-s-at

@@ -1,5 +1,4 @@
 use Rattle.tokens.proofs.Lexing.{tells, tells_wrong, starred_no, starred_yes}
-use borrow.Author.Rules.{rules}
 use Rattle.tokens.proofs.starred.Goals as goal
 
 pub returns-then-starts_line : goal.returns-then-starts_line

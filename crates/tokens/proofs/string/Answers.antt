@@ -1,6 +1,5 @@
 use mathlib.Core.Path.{sym, ◌∙◌}
 use Rattle.tokens.proofs.Lexing.{tells, tells_wrong, string_open, string_long, string_some}
-use borrow.Author.Rules.{rules}
 use Rattle.tokens.proofs.string.Goals as goal
 
 pub returns-then-n-gt255 : goal.returns-then-n-gt255

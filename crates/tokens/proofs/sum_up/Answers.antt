@@ -1,7 +1,4 @@
-use Prim.Native.Nat.{◌-◌}
-use lib.ListN.{length}
-use Rattle.tokens.proofs.Digits.{Adds, begins, stops, out, turned}
-use borrow.Author.Rules.{rules}
+use Rattle.tokens.proofs.Digits.{begins, stops, out, turned}
 use Rattle.tokens.proofs.sum_up.Goals as goal
 
 pub loop-i-init : goal.loop-i-init

@@ -1,7 +1,6 @@
 use Prim.Native.Nat.{◌-◌}
 use lib.ListN.{length}
-use Rattle.tokens.proofs.Digits.{Adds, begins, stops, out, turned}
-use borrow.Author.Rules.{rules}
+use Rattle.tokens.proofs.Digits.{Adds}
 use Rattle.tokens.proofs.sum_up.Given as goal
 
 abbrev pub invariant-loop-i : goal.invariant-loop-i

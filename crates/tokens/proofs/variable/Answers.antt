@@ -1,6 +1,5 @@
 use mathlib.Core.Path.{sym, ◌∙◌}
 use Rattle.tokens.proofs.Lexing.{tells, tells_wrong, tells_as, indexed_out, indexed_dot, indexed_other, indexed_touching, indexed_yes, by_index}
-use borrow.Author.Rules.{rules}
 use Rattle.tokens.proofs.variable.Goals as goal
 
 pub returns-then-s-at : goal.returns-then-s-at

@@ -1,9 +1,5 @@
-use mathlib.Core.List.{◌∷◌}
-use Prim.Native.Nat.{◌-◌}
 use native.Mathlib.Omega.{arith}
-use Rattle.classes.specs.Table.{part}
-use Rattle.variables.proofs.Finding.{Seeks, seeks_first, other_kind, other_index, this_one, none_is}
-use borrow.Author.Rules.{rules}
+use Rattle.variables.proofs.Finding.{seeks_first, other_kind, other_index, this_one, none_is}
 use Rattle.variables.proofs.find.Goals as goal
 
 pub loop-j-init : goal.loop-j-init

@@ -1,5 +1,4 @@
 use Rattle.variables.proofs.Finding.{numbered_new, numbered_old}
-use borrow.Author.Rules.{rules}
 use Rattle.variables.proofs.number.Goals as goal
 
 pub returns-then-m-v : goal.returns-then-m-v

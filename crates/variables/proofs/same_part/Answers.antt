@@ -1,8 +1,6 @@
-use mathlib.Core.Path.{◌≡◌, ◌∙◌}
-use Prim.Native.Nat.{◌+◌, ◌-◌, ◌≤◌}
+use mathlib.Core.Path.{◌∙◌}
 use native.Mathlib.Omega.{arith}
-use Rattle.variables.proofs.Parts.{alike, sizes_differ, alike_first, alike_none, alike_no, alike_on}
-use borrow.Author.Rules.{rules}
+use Rattle.variables.proofs.Parts.{sizes_differ, alike_first, alike_none, alike_no, alike_on}
 use Rattle.variables.proofs.same_part.Goals as goal
 
 pub returns-then-n-m : goal.returns-then-n-m
@@ -18,12 +16,11 @@ returns-then-x-y c =
     c.spelling_of-y.ensures c.if-x-y.true ∙ c.loop-k.invariant.0
 
 pub loop-k-preserved : goal.loop-k-preserved
-loop-k-preserved c =
-    (
-      alike_on c.args.text.now _ _ _ _ _ c.requires.n_in_bounds.0 c.requires.n_in_bounds.1 c.if-n-m.false c.loop-k-test.true c.spelling_of-x.ensures
-          c.spelling_of-y.ensures c.if-x-y.false ∙ c.loop-k.invariant.0,
-      omega arith,
-    )
+loop-k-preserved c = (
+  alike_on c.args.text.now _ _ _ _ _ c.requires.n_in_bounds.0 c.requires.n_in_bounds.1 c.if-n-m.false c.loop-k-test.true c.spelling_of-x.ensures
+      c.spelling_of-y.ensures c.if-x-y.false ∙ c.loop-k.invariant.0,
+  omega arith,
+)
 
 pub returns : goal.returns
 returns c =

@@ -1,8 +1,6 @@
-use mathlib.Core.Path.{◌≡◌, ◌∙◌}
+use mathlib.Core.Path.{◌≡◌}
 use Prim.Native.Nat.{◌+◌, ◌-◌, ◌≤◌}
-use native.Mathlib.Omega.{arith}
-use Rattle.variables.proofs.Parts.{alike, sizes_differ, alike_first, alike_none, alike_no, alike_on}
-use borrow.Author.Rules.{rules}
+use Rattle.variables.proofs.Parts.{alike}
 use Rattle.variables.proofs.same_part.Given as goal
 
 abbrev pub invariant-loop-k : goal.invariant-loop-k

@@ -1,7 +1,7 @@
-use Prim.Native.Nat.{◌+◌, ◌-◌}
+use Prim.Native.Nat.{◌+◌}
 use native.Mathlib.Omega.{arith}
 use borrow.Author.Rules.{rules}
-use Rattle.elements.specs.Reading.{Characters, no_more, one_more}
+use Rattle.elements.specs.Reading.{no_more, one_more}
 use Rattle.elements.proofs.Cursor.past_characters.Goals as goal
 
 pub returns-then-to-eq0 : goal.returns-then-to-eq0

@@ -1,7 +1,5 @@
-use Prim.Native.Nat.{◌+◌, ◌-◌}
-use native.Mathlib.Omega.{arith}
-use borrow.Author.Rules.{rules}
-use Rattle.elements.specs.Reading.{Characters, no_more, one_more}
+use Prim.Native.Nat.{◌-◌}
+use Rattle.elements.specs.Reading.{Characters}
 use Rattle.elements.proofs.Cursor.past_characters.Given as goal
 
 abbrev pub invariant-loop-at : goal.invariant-loop-at

@@ -1,6 +1,5 @@
 use mathlib.Core.Path.{refl, sym}
 use native.Mathlib.Omega.{arith}
-use borrow.Author.Rules.{rules}
 use lib.ListN.{get_or}
 use Rattle.meaning.specs.Elements.{body}
 use Rattle.elements.specs.Reading.{over, unknown}

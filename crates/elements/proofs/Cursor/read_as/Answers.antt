@@ -2,7 +2,6 @@ use mathlib.Core.Path.{◌≡◌}
 use Prim.Native.Nat.{◌-◌}
 use native.Mathlib.Omega.{arith}
 use Rattle.kinds.proofs.Bodies.{body-not_three}
-use borrow.Author.Rules.{rules}
 use Rattle.meaning.specs.Elements.{body}
 use Rattle.elements.proofs.Places.{behind}
 use Rattle.elements.proofs.Cursor.read_as.Goals as goal
