@@ -16,7 +16,7 @@ use Rattle.meaning.proofs.Cutting.{cut_at}
 use Rattle.taking.specs.declared.State.{State}
 use Rattle.taking.specs.declared.Taken.{Taken}
 use Rattle.kinds.specs.Stacks.{stack}
-use Rattle.taking.specs.Standing.{number_of as partNumber, part_of, next_of, moved_to, Means, Ready, Tells, Steps}
+use Rattle.taking.specs.Standing.{number_of as part_number, part_of, next_of, moved_to, Means, Ready, Tells, Steps}
 use Rattle.checking.specs.Passing.{Tried, Reading}
 use Rattle.taking.proofs.Parts.{in_field, field_stays}
 use Rattle.taking.proofs.Tests.{fails, passes, stands_yes, fresh_plain, limits_old}
@@ -73,7 +73,7 @@ end_read bs i h k e z =
 abbrev part_in : Stage → Part
 part_in (at p opens n vs) = p
 
-part_stays : (s : Stage) (x : Element) → eqb (partNumber (part_in (state_after s x))) 0 ≡ eqb (partNumber (part_in s)) 0
+part_stays : (s : Stage) (x : Element) → eqb (part_number (part_in (state_after s x))) 0 ≡ eqb (part_number (part_in s)) 0
 unfolding state_after
 part_stays (at p opens n vs) x = field_stays p (kind x)
 
@@ -174,8 +174,8 @@ module _ {found : Option ℕ} {bs st : List ℕ} {i : ℕ} {q : State} (R : Read
 
       field_still : eqb r.next.part 0 ≡ eqb q.part 0
       field_still =
-          sym (in_field r.next.part) ∙ ap (λ (s : Stage). eqb (partNumber (part_in s)) 0) (sym next.is) ∙ part_stays R.stage x
-          ∙ ap (λ (s : Stage). eqb (partNumber (part_in s)) 0) R.means.is ∙ in_field q.part
+          sym (in_field r.next.part) ∙ ap (λ (s : Stage). eqb (part_number (part_in s)) 0) (sym next.is) ∙ part_stays R.stage x
+          ∙ ap (λ (s : Stage). eqb (part_number (part_in s)) 0) R.means.is ∙ in_field q.part
 
       pub turned : Reading found bs c.at r.next st'
       unfolding first_bad

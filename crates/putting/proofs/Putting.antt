@@ -15,11 +15,11 @@ use Rattle.meaning.proofs.Truth.{is_true, is_false, see}
 use Rattle.elements.specs.declared.Element.{Element as Read}
 use Rattle.elements.specs.Bytes.{kind_of, number_of, digits, bytes_of}
 use Rattle.taking.specs.declared.Taken.{Taken}
-use Rattle.taking.specs.Standing.{number_of as partNumber, Means, Ready, Steps, Tells}
+use Rattle.taking.specs.Standing.{number_of as part_number, Means, Ready, Steps, Tells}
 use Rattle.taking.proofs.Parts.{in_field, field_stays}
 use Rattle.taking.proofs.Stepping.{told_by}
 use Rattle.text.specs.Numbering.{Key}
-use Rattle.text.specs.Reading.{digits as digitsOf, element, Phase, Reader as Told, reader, kept, phase_after, put_all}
+use Rattle.text.specs.Reading.{digits as digits_of, element, Phase, Reader as Told, reader, kept, phase_after, put_all}
 use Rattle.text.proofs.Kept.{put_yes, put_no}
 use Rattle.putting.specs.declared.Reader.{Reader}
 use Rattle.putting.specs.declared.Next.{Next}
@@ -27,8 +27,8 @@ use Rattle.putting.specs.declared.Next.TheVariants.{Good, Bad}
 use Rattle.putting.specs.Putting.{phase_of, phase_next, kept_count, Written, Stands, Able, After, Led, Barred, Onward, leads, stops, Going}
 use Rattle.putting.proofs.Writing.{filled_more, join_more}
 
-digits_are : (w n : ℕ) → digits w n ≡ digitsOf w n
-unfolding digits digitsOf
+digits_are : (w n : ℕ) → digits w n ≡ digits_of w n
+unfolding digits digits_of
 digits_are zero n = refl
 digits_are (suc w) n = ap {B = List ℕ} (λ l. n % 256 ∷ l) (digits_are w (n / 256))
 
@@ -43,7 +43,7 @@ ready_of {q = q} s = record { stage = s.stage; means = s.means; room = (let z : 
 abbrev part_in : Stage → Part
 part_in (at p opens n vs) = p
 
-part_stays : (s : Stage) (x : Element) → eqb (partNumber (part_in (state_after s x))) 0 ≡ eqb (partNumber (part_in s)) 0
+part_stays : (s : Stage) (x : Element) → eqb (part_number (part_in (state_after s x))) 0 ≡ eqb (part_number (part_in s)) 0
 unfolding state_after
 part_stays (at p opens n vs) x = field_stays p (kind x)
 
@@ -95,8 +95,8 @@ module _ (q : Reader) (y : Read) (st buf : List ℕ) (t : Taken) (st' : List ℕ
 
       field_still : eqb t.next.part 0 ≡ eqb q.state.part 0
       field_still =
-          sym (in_field t.next.part) ∙ ap (λ (u : Stage). eqb (partNumber (part_in u)) 0) (sym next.is) ∙ part_stays s.stage x
-          ∙ ap (λ (u : Stage). eqb (partNumber (part_in u)) 0) s.means.is ∙ in_field q.state.part
+          sym (in_field t.next.part) ∙ ap (λ (u : Stage). eqb (part_number (part_in u)) 0) (sym next.is) ∙ part_stays s.stage x
+          ∙ ap (λ (u : Stage). eqb (part_number (part_in u)) 0) s.means.is ∙ in_field q.state.part
 
       abbrev told : Told
       told = reader (phase_after x (phase_of q.phase)) (Ns q.names) (kept x (Vs q.variables)) (state_after s.stage x) (s.out ++ (x ∷ []))

@@ -15,7 +15,7 @@ use Rattle.meaning.proofs.Truth.{is_true, is_false, see}
 use Rattle.text.specs.Tokens.{Token as Meaning, malformed, variable, token, gap}
 use Rattle.text.specs.Tokens as Tok
 use Rattle.text.specs.Numbering.{Key, number_of}
-use Rattle.text.specs.Reading.{digits, element, free, between, owed, named as isNamed, inside, Reader as Told, reader, put_all, put_some, type_of, within, heading, number_in, variables_with, entering, enter, begin, amiss, saying, reads, finish, said}
+use Rattle.text.specs.Reading.{digits, element, free, between, owed, named as is_named, inside, Reader as Told, reader, put_all, put_some, type_of, within, heading, number_in, variables_with, entering, enter, begin, amiss, saying, reads, finish, said}
 use Rattle.text.proofs.Kept.{put_no}
 use Rattle.kinds.specs.Stacks.{stack}
 use Rattle.taking.specs.Standing.{part_of as part_at}
@@ -184,7 +184,7 @@ unfolding entering heading within put_some
 enter_variable b n x (reader free ns vs s out) next h l = absurd (none_some h)
 enter_variable b n x (reader between ns vs s out) next h l = absurd (none_some h)
 enter_variable b n x (reader owed ns vs s out) next h l = absurd (none_some h)
-enter_variable b n x (reader isNamed ns vs s out) next h l = absurd (none_some h)
+enter_variable b n x (reader is_named ns vs s out) next h l = absurd (none_some h)
 enter_variable b n x (reader inside ns vs s out) next h l =
     elim (see (eqb (fault s (element (type_of b) n)) 0)) [
       | is_true g ↦ low_number b n s g l
@@ -196,7 +196,7 @@ unfolding entering heading within put_some
 enter_malformed n (reader free ns vs s out) = refl
 enter_malformed n (reader between ns vs s out) = refl
 enter_malformed n (reader owed ns vs s out) = refl
-enter_malformed n (reader isNamed ns vs s out) = refl
+enter_malformed n (reader is_named ns vs s out) = refl
 enter_malformed n (reader inside ns vs s out) = refl
 
 -- the variables stay few

@@ -4,7 +4,7 @@
 ghost use Rattle.std.specs.Prelude.{◌≡◌, true, false, ◌||◌, ◌+◌, ◌*◌, ◌-◌, ◌≤◌, ◌<◌, length, get_or, drop};
 ghost use Rattle.meaning.specs.Goodness.{span};
 ghost use Rattle.text.specs.Classes.{is_digit};
-ghost use Rattle.text.specs.Tokens.{identifier, as_name, as_call, real, apart, indexed, quoted, as_string, commented, slashed as slashedOf};
+ghost use Rattle.text.specs.Tokens.{identifier, as_name, as_call, real, apart, indexed, quoted, as_string, commented, slashed as slashed_of};
 ghost use Rattle.classes.specs.Table.{Classes};
 ghost use Rattle.tokens.specs.Lexemes.{length_of, closed_at, past_at, capped, Sums, column_at, number_at, starred_at, Trimmed, dotted_at, lex_at, Tells};
 
@@ -237,7 +237,7 @@ fn comment_end(s: &[u8], at: usize) -> Found
 
 fn slashed(s: &[u8], at: usize) -> Lexeme
     requires { (length s.now ≤ 65536) × (at < length s.now) }
-    ensures { Tells s.now at result (slashedOf (drop (at + 1) s.now)) }
+    ensures { Tells s.now at result (slashed_of (drop (at + 1) s.now)) }
 {
     let malformed = spanning(Token::Malformed, at + 1);
     if s.len() <= at + 1 {
