@@ -1,5 +1,6 @@
 // Bytes as digits.
 #![tactic(auto)]
+
 ghost use Rattle.std.specs.Prelude.{◌≡◌, ◌<◌, length};
 
 fn digit(d: u8) -> u8
