@@ -40,12 +40,10 @@ fn line_of(text: &[u8], place: usize) -> Line
 {
     let mut number: usize = 1;
     let mut start: usize = 0;
-    let mut at: usize = 0;
-    while at < place {
-        at += 1;
-        if begins(text, at) {
+    for at in 0..place {
+        if begins(text, at + 1) {
             number += 1;
-            start = at;
+            start = at + 1;
         }
     }
     Line { number, start }
@@ -57,17 +55,12 @@ fn end_of(text: &[u8], place: usize) -> usize
     ensures lower_bound { place ≤ result }
     ensures upper_bound { result ≤ length text.now }
 {
-    let mut end = place;
-    while end < text.len() {
-        if text[end] == b'\n' {
+    for end in place..text.len() {
+        if text[end] == b'\n' || text[end] == b'\r' {
             return end;
         }
-        if text[end] == b'\r' {
-            return end;
-        }
-        end += 1;
     }
-    end
+    text.len()
 }
 
 // Where the part of a line that is shown begins: a long line is cut around the place.
