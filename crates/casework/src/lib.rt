@@ -1,8 +1,13 @@
 // What the case programs read and print: numbers and bytes off a case file, and what a case gives.
 #![tactic(auto)]
 
-ghost use Rattle.std.specs.Prelude.{◌≡◌, ◌≤◌, ◌<◌, length, slice_index, EachIndex, OnOk};
+ghost use Rattle.std.specs.Prelude.{◌≡◌, ◌≤◌, ◌<◌, ◌+◌, ◌-◌, ◌++◌, length, take, drop, min, slice_index, EachIndex, OnOk};
+ghost use Rattle.std.specs.Fmt.{decimal as digits_of};
 ghost use Rattle.std.specs.Io.KnownBytes.{Appends};
+ghost use Rattle.hexing.specs.Digits.{pair_of};
+ghost use Rattle.casework.specs.Hash.{hash_of};
+ghost use Rattle.casework.specs.Printed.{hex_of, word_of};
+ghost use Rattle.casework.specs.Words.{IsNext};
 
 use std::io;
 use std::io::{Read, Write};
@@ -13,27 +18,15 @@ pub enum Word {
     Over,
 }
 
-// Reads until a buffer is full, or the file ends or cannot be read; how many bytes of the buffer are read.
-fn read_full<R: Read>(file: &mut R, buf: &mut [u8]) -> usize
-    ensures { result ≤ length buf.new }
-{
-    let mut done = 0;
-    while done < buf.len() {
-        match file.read(&mut buf[done..]) {
-            Ok(n) if n > 0 => done += n,
-            _ => return done,
-        }
-    }
-    done
-}
-
 // A number of four bytes, the low byte first; Over where the file ends.
-pub fn number<R: Read>(file: &mut R) -> Word {
+pub fn number<R: Read>(file: &mut R) -> Word
+    ensures { IsNext (R.remaining file.old) (R.remaining file.new) result }
+{
     let mut b = [0u8; 4];
-    if read_full(file, &mut b) < 4 {
-        return Word::Over;
+    match file.read_exact(&mut b) {
+        Ok(()) => Word::Is(u32::from_le_bytes(b)),
+        Err(_) => Word::Over,
     }
-    Word::Is(u32::from_le_bytes(b))
 }
 
 // A number, or 0 where the file ends.
@@ -52,13 +45,13 @@ pub fn load<R: Read>(file: &mut R, buf: &mut [u8]) -> usize
     if buf.len() < n {
         return 0;
     }
-    read_full(file, &mut buf[..n]);
+    fill(file, &mut buf[..n]);
     n
 }
 
-// So many bytes as a buffer holds.
+// So many bytes as a buffer holds; where the file ends before, what it has.
 pub fn fill<R: Read>(file: &mut R, buf: &mut [u8]) {
-    read_full(file, buf);
+    let _ = file.read_exact(buf);
 }
 
 // Sets every byte of a buffer.
@@ -125,7 +118,9 @@ pub fn next_case<R: Read>(
 // Puts some bytes into a buffer from a place on, as far as they fit; the place behind them.
 pub fn put(out: &mut [u8], at: usize, s: &[u8]) -> usize
     requires { at ≤ length out.old }
-    ensures { result ≤ length out.new }
+    ensures in_bounds { result ≤ length out.new }
+    ensures end { result ≡ at + min (length s.now) (length out.old - at) }
+    ensures bytes { out.new ≡ take at out.old ++ take (result - at) s.now ++ drop result out.old }
 {
     let n = s.len().min(out.len() - at);
     out[at..at + n].copy_from_slice(&s[..n]);
@@ -139,17 +134,23 @@ pub fn text<W: Write>(out: &mut W, s: &[u8]) -> io::Result<()>
 }
 
 // A number, and what stands behind it.
-pub fn decimal<W: Write>(out: &mut W, n: u64, after: &[u8]) -> io::Result<()> {
+pub fn decimal<W: Write>(out: &mut W, n: u64, after: &[u8]) -> io::Result<()>
+    ensures { OnOk result (Appends (W.contents out.old) (W.contents out.new) (digits_of n ++ after.now)) }
+{
     write!(out, "{n}")?;
     out.write_all(after)
 }
 
 // One byte, as two digits of upper-case hex.
-pub fn hex_byte<W: Write>(out: &mut W, b: u8) -> io::Result<()> {
+pub fn hex_byte<W: Write>(out: &mut W, b: u8) -> io::Result<()>
+    ensures { OnOk result (Appends (W.contents out.old) (W.contents out.new) (pair_of b)) }
+{
     out.write_all(&hexing::pair(b))
 }
 
-pub fn hex<W: Write>(out: &mut W, s: &[u8]) -> io::Result<()> {
+pub fn hex<W: Write>(out: &mut W, s: &[u8]) -> io::Result<()>
+    ensures { OnOk result (Appends (W.contents out.old) (W.contents out.new) (hex_of s.now)) }
+{
     for b in s {
         hex_byte(out, *b)?;
     }
@@ -157,7 +158,9 @@ pub fn hex<W: Write>(out: &mut W, s: &[u8]) -> io::Result<()> {
 }
 
 // The hash FNV-1a of some bytes.
-pub fn hash(s: &[u8]) -> u32 {
+pub fn hash(s: &[u8]) -> u32
+    ensures { result ≡ hash_of s.now }
+{
     let mut h: u32 = 2166136261;
     for b in s {
         h = (h ^ u32::from(*b)).wrapping_mul(16777619);
@@ -165,12 +168,16 @@ pub fn hash(s: &[u8]) -> u32 {
     h
 }
 
-pub fn hex_word<W: Write>(out: &mut W, n: u32) -> io::Result<()> {
+pub fn hex_word<W: Write>(out: &mut W, n: u32) -> io::Result<()>
+    ensures { OnOk result (Appends (W.contents out.old) (W.contents out.new) (word_of n)) }
+{
     hex(out, &n.to_be_bytes())
 }
 
 // The hash of some bytes, and what stands behind it.
-pub fn hashed<W: Write>(out: &mut W, s: &[u8], after: &[u8]) -> io::Result<()> {
+pub fn hashed<W: Write>(out: &mut W, s: &[u8], after: &[u8]) -> io::Result<()>
+    ensures { OnOk result (Appends (W.contents out.old) (W.contents out.new) (word_of (hash_of s.now) ++ after.now)) }
+{
     hex_word(out, hash(s))?;
     text(out, after)
 }
