@@ -1,5 +1,6 @@
 // Runs the case files of data/, and prints what each case gives.
 #![tactic(auto)]
+
 ghost use Rattle.desk.specs.Calling.{Called};
 
 use casework::Word;
@@ -7,9 +8,12 @@ use checking::Check;
 use checking_fields::FieldCheck;
 use desk::Record;
 use machine::Answer;
+use std::io::{BufReader, BufWriter, Read, Write};
+use std::rt::Files;
+use std::{fs, io};
 
 // What the cases of a file are about.
-#[derive(Drop)]
+#[derive(Clone, Copy)]
 enum Sort {
     Checks,
     Matching,
@@ -17,32 +21,37 @@ enum Sort {
     Desk,
 }
 
-fn found(check: Check) {
+fn found<W: Write>(out: &mut W, check: Check) -> io::Result<()> {
     match check {
-        Check::Good => casework::text(b"good\n"),
-        Check::Bad(place) => casework::decimal(place as u64, b"\n"),
+        Check::Good => casework::text(out, b"good\n"),
+        Check::Bad(place) => casework::decimal(out, place as u64, b"\n"),
     }
 }
 
-fn found_in_field(check: FieldCheck) {
+fn found_in_field<W: Write>(out: &mut W, check: FieldCheck) -> io::Result<()> {
     match check {
-        FieldCheck::Good => casework::text(b"good\n"),
-        FieldCheck::Bad(place) => casework::decimal(place as u64, b"\n"),
-        FieldCheck::Short => casework::text(b"short\n"),
+        FieldCheck::Good => casework::text(out, b"good\n"),
+        FieldCheck::Bad(place) => casework::decimal(out, place as u64, b"\n"),
+        FieldCheck::Short => casework::text(out, b"short\n"),
     }
 }
 
 // P and a program, or F and a field; false where the file ends.
-fn check(file: i32, bytes: &mut [u8], scratch: &mut [u8]) -> bool {
+fn check<R: Read, W: Write>(
+    file: &mut R,
+    out: &mut W,
+    bytes: &mut [u8],
+    scratch: &mut [u8],
+) -> io::Result<bool> {
     let mut tag = [0u8; 1];
     casework::fill(file, &mut tag);
     let n = casework::load(file, bytes);
     match tag[0] {
-        b'P' => found(checking::check_program(&bytes[0..n])),
-        b'F' => found_in_field(checking_fields::check_field(&bytes[0..n], scratch)),
-        _ => return false,
+        b'P' => found(out, checking::check_program(&bytes[..n]))?,
+        b'F' => found_in_field(out, checking_fields::check_field(&bytes[..n], scratch))?,
+        _ => return Ok(false),
     }
-    true
+    Ok(true)
 }
 
 // A step of the program whose one sentence is `left = right`, on a call with that argument.
@@ -56,11 +65,11 @@ fn step(left: &[u8], right: &[u8], arg: &[u8], field: &mut [u8], scratch: &mut [
     let mut used = casework::put(field, 0, b"\x06\x00\x00");
     used = casework::put(field, used, arg);
     used = casework::put(field, used, b"\x07");
-    machine::run(&program[0..n], field, used, scratch, 1)
+    machine::run(&program[..n], field, used, scratch, 1)
 }
 
 // The variable's value, if it stands on the left side: what it gives on the right.
-fn value(left: &[u8], arg: &[u8], kind: u8, number: u8) {
+fn value<W: Write>(out: &mut W, left: &[u8], arg: &[u8], kind: u8, number: u8) -> io::Result<()> {
     let mut field = [0u8; 4096];
     let mut scratch = [0u8; 4096];
     let right = [kind, number];
@@ -68,100 +77,115 @@ fn value(left: &[u8], arg: &[u8], kind: u8, number: u8) {
     let code = a.code;
     let used = a.used;
     if machine::number(code) != 0 {
-        return;
+        return Ok(());
     }
     if 4096 < used {
-        return;
+        return Ok(());
     }
     match kind {
-        kinds::S_VARIABLE => casework::text(b" s"),
-        kinds::T_VARIABLE => casework::text(b" t"),
-        _ => casework::text(b" e"),
+        kinds::S_VARIABLE => casework::text(out, b" s")?,
+        kinds::T_VARIABLE => casework::text(out, b" t")?,
+        _ => casework::text(out, b" e")?,
     }
-    casework::decimal(number as u64, b"=");
-    casework::hex(&field[0..used]);
+    casework::decimal(out, u64::from(number), b"=")?;
+    casework::hex(out, &field[..used])
 }
 
 // The values of all variables, by kind and number.
-fn values(left: &[u8], arg: &[u8]) {
-    let mut v: u8 = 0;
-    while (v as usize) < kinds::SLOTS {
-        value(left, arg, kinds::S_VARIABLE + v / 16, v % 16);
-        v += 1;
+fn values<W: Write>(out: &mut W, left: &[u8], arg: &[u8]) -> io::Result<()> {
+    for v in 0..kinds::SLOTS as u8 {
+        value(out, left, arg, kinds::S_VARIABLE + v / 16, v % 16)?;
     }
+    Ok(())
 }
 
 // Whether a left side fits an argument, and the values of its variables.
-fn fits(left: &[u8], arg: &[u8]) {
+fn fits<W: Write>(out: &mut W, left: &[u8], arg: &[u8]) -> io::Result<()> {
     let mut field = [0u8; 4096];
     let mut scratch = [0u8; 4096];
     let code = step(left, b"", arg, &mut field, &mut scratch).code;
     match machine::number(code) {
-        0 => casework::text(b"yes"),
-        2 => return casework::text(b"no\n"),
-        _ => return casework::text(b"no left side, or no argument\n"),
+        0 => casework::text(out, b"yes")?,
+        2 => return casework::text(out, b"no\n"),
+        _ => return casework::text(out, b"no left side, or no argument\n"),
     }
-    values(left, arg);
-    casework::text(b"\n");
+    values(out, left, arg)?;
+    casework::text(out, b"\n")
 }
 
 // A left side and an argument; false where the file ends.
-fn matching(file: i32, left: &mut [u8], arg: &mut [u8]) -> bool {
+fn matching<R: Read, W: Write>(
+    file: &mut R,
+    out: &mut W,
+    left: &mut [u8],
+    arg: &mut [u8],
+) -> io::Result<bool> {
     let n = match casework::number(file) {
         Word::Is(n) => n as usize,
-        Word::Over => return false,
+        Word::Over => return Ok(false),
     };
     if left.len() < n {
-        return false;
+        return Ok(false);
     }
-    casework::fill(file, &mut left[0..n]);
+    casework::fill(file, &mut left[..n]);
     let m = casework::load(file, arg);
-    fits(&left[0..n], &arg[0..m]);
-    true
+    fits(out, &left[..n], &arg[..m])?;
+    Ok(true)
 }
 
 // The answer, with hashes of the field buffer and the scratch afterwards.
-fn run(program: &[u8], field: &mut [u8], used: usize, scratch: &mut [u8], budget: u32) {
+fn run<W: Write>(
+    out: &mut W,
+    program: &[u8],
+    field: &mut [u8],
+    used: usize,
+    scratch: &mut [u8],
+    budget: u32,
+) -> io::Result<()> {
     let a = machine::run(program, field, used, scratch, budget);
     let code = a.code;
-    casework::decimal(machine::number(code) as u64, b" ");
-    casework::decimal(a.steps as u64, b" ");
-    casework::decimal(a.used as u64, b" ");
-    casework::decimal(a.place as u64, b" ");
-    casework::hashed(field, b" ");
-    casework::hashed(scratch, b"\n");
+    casework::decimal(out, u64::from(machine::number(code)), b" ")?;
+    casework::decimal(out, u64::from(a.steps), b" ")?;
+    casework::decimal(out, a.used as u64, b" ")?;
+    casework::decimal(out, a.place as u64, b" ")?;
+    casework::hashed(out, field, b" ")?;
+    casework::hashed(out, scratch, b"\n")
 }
 
 // A part in hex, of a long one its first 16 bytes; a dash where it is empty.
-fn part(s: &[u8]) {
-    if s.len() == 0 {
-        casework::text(b"-\n");
-        return;
+fn part<W: Write>(out: &mut W, s: &[u8]) -> io::Result<()> {
+    if s.is_empty() {
+        return casework::text(out, b"-\n");
     }
     if s.len() <= 16 {
-        casework::hex(s);
-        casework::text(b"\n");
-        return;
+        casework::hex(out, s)?;
+        return casework::text(out, b"\n");
     }
-    casework::hex(&s[0..16]);
-    casework::text(b"+\n");
+    casework::hex(out, &s[..16])?;
+    casework::text(out, b"+\n")
 }
 
 // The record, hashes of the buffers, and the pointer's part.
-fn noted<'a>(now: Record, program: &'a [u8], field: &'a [u8], scratch: &[u8]) {
+fn noted<'a, W: Write>(
+    out: &mut W,
+    now: Record,
+    program: &'a [u8],
+    field: &'a [u8],
+    scratch: &[u8],
+) -> io::Result<()> {
     let code = now.code;
-    casework::decimal(now.used as u64, b" ");
-    casework::decimal(machine::number(code) as u64, b" ");
-    casework::decimal(now.place as u64, b" ");
-    casework::hashed(field, b" ");
-    casework::hashed(scratch, b" ");
+    casework::decimal(out, now.used as u64, b" ")?;
+    casework::decimal(out, u64::from(machine::number(code)), b" ")?;
+    casework::decimal(out, now.place as u64, b" ")?;
+    casework::hashed(out, field, b" ")?;
+    casework::hashed(out, scratch, b" ")?;
     let answer = Answer {
         code,
         steps: 0,
         used: now.used,
         place: now.place,
     };
-    part(desk::pointer(answer, program, field));
+    part(out, desk::pointer(answer, program, field))
 }
 
 // One call of the desk, the record being lent to it.
@@ -174,117 +198,124 @@ fn lend(noted: Record, program: &[u8], field: &mut [u8], scratch: &mut [u8]) -> 
 }
 
 // So many calls of the desk, from a fresh record.
-fn calls(program: &[u8], field: &mut [u8], used: usize, scratch: &mut [u8], n: u32) {
+fn calls<W: Write>(
+    out: &mut W,
+    program: &[u8],
+    field: &mut [u8],
+    used: usize,
+    scratch: &mut [u8],
+    n: u32,
+) -> io::Result<()> {
     let mut now = desk::fresh(used);
-    let mut i: u32 = 0;
-    while i < n {
+    for _ in 0..n {
         now = lend(now, program, field, scratch);
-        noted(now, program, field, scratch);
-        i += 1;
+        noted(out, now, program, field, scratch)?;
     }
+    Ok(())
 }
 
 // One run, or calls of the desk.
-fn start(
+fn start<W: Write>(
+    out: &mut W,
     program: &[u8],
     field: &mut [u8],
     used: usize,
     scratch: &mut [u8],
     n: u32,
     stepwise: bool,
-) {
+) -> io::Result<()> {
     if stepwise {
-        calls(program, field, used, scratch, n);
+        calls(out, program, field, used, scratch, n)
     } else {
-        run(program, field, used, scratch, n);
+        run(out, program, field, used, scratch, n)
     }
 }
 
 // A program, a field and a scratch; false where there is no more.
-fn started(
-    file: i32,
+fn started<R: Read, W: Write>(
+    file: &mut R,
+    out: &mut W,
     program: &mut [u8],
     field: &mut [u8],
     scratch: &mut [u8],
     stepwise: bool,
-) -> bool {
+) -> io::Result<bool> {
     let c = casework::next_case(file, program, field, scratch);
     if !c.more {
-        return false;
+        return Ok(false);
     }
-    let p = c.program;
-    let n = c.field;
-    let m = c.scratch;
     start(
-        &program[0..p],
-        &mut field[0..n],
+        out,
+        &program[..c.program],
+        &mut field[..c.field],
         c.used,
-        &mut scratch[0..m],
+        &mut scratch[..c.scratch],
         c.last,
         stepwise,
-    );
-    true
+    )?;
+    Ok(true)
 }
 
 // One case; false where there is no more.
-fn case(
+fn case<R: Read, W: Write>(
     sort: Sort,
-    file: i32,
-    program: &mut [u8; 65600],
-    field: &mut [u8; 65600],
-    scratch: &mut [u8; 65600],
-) -> bool {
+    file: &mut R,
+    out: &mut W,
+    program: &mut [u8],
+    field: &mut [u8],
+    scratch: &mut [u8],
+) -> io::Result<bool> {
     match sort {
-        Sort::Checks => check(file, program, scratch),
-        Sort::Matching => matching(file, program, field),
-        Sort::Machine => started(file, program, field, scratch, false),
-        Sort::Desk => started(file, program, field, scratch, true),
+        Sort::Checks => check(file, out, program, scratch),
+        Sort::Matching => matching(file, out, program, field),
+        Sort::Machine => started(file, out, program, field, scratch, false),
+        Sort::Desk => started(file, out, program, field, scratch, true),
     }
 }
 
 // All cases of a file; where there is none, none.
-fn cases(
+fn cases<R: Files + Alloc, W: Write>(
+    rt: &R,
+    out: &mut W,
     sort: Sort,
-    path: &[u8],
-    program: &mut [u8; 65600],
-    field: &mut [u8; 65600],
-    scratch: &mut [u8; 65600],
-) {
-    let file = os::open_read(path);
-    let mut i: usize = 0;
-    while i < 100000 {
-        if !case(sort, file, program, field, scratch) {
-            libc::close(file);
-            return;
+    path: &str,
+    program: &mut [u8],
+    field: &mut [u8],
+    scratch: &mut [u8],
+) -> io::Result<()> {
+    let Ok(file) = fs::open(rt, path) else {
+        return Ok(());
+    };
+    let mut file = BufReader::new(rt.alloc(), file)?;
+    for _ in 0..100000 {
+        if !case(sort, &mut file, out, program, field, scratch)? {
+            break;
         }
-        i += 1;
     }
+    Ok(())
 }
 
-fn main() {
+fn main(rt: HostRuntime) -> io::Result<()> {
+    let mut out = BufWriter::new(rt.alloc(), io::writer(&rt))?;
     let mut program = [0u8; 65600];
     let mut field = [0u8; 65600];
     let mut scratch = [0u8; 65600];
-    cases(
-        Sort::Checks,
-        b"checks",
-        &mut program,
-        &mut field,
-        &mut scratch,
-    );
-    cases(
-        Sort::Matching,
-        b"matching",
-        &mut program,
-        &mut field,
-        &mut scratch,
-    );
-    cases(
-        Sort::Machine,
-        b"machine",
-        &mut program,
-        &mut field,
-        &mut scratch,
-    );
-    cases(Sort::Desk, b"desk", &mut program, &mut field, &mut scratch);
+    let sorts = [
+        (Sort::Checks, "checks"),
+        (Sort::Matching, "matching"),
+        (Sort::Machine, "machine"),
+        (Sort::Desk, "desk"),
+    ];
+    for (sort, path) in sorts {
+        cases(
+            &rt,
+            &mut out,
+            sort,
+            path,
+            &mut program,
+            &mut field,
+            &mut scratch,
+        )?;
+    }
+    out.flush()
 }

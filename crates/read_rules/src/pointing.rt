@@ -2,13 +2,14 @@
 ghost use Rattle.std.specs.Prelude.{◌+◌, ◌<◌, ◌≤◌, length};
 
 use crate::{number, wording};
-use libc::STDOUT_FILENO;
+use std::io;
+use std::io::Write;
 
 // The most bytes of a line that are shown.
 const WIDTH: usize = 120;
 
 // A line's number from 1, and where it begins.
-#[derive(Drop)]
+#[derive(Clone, Copy)]
 struct Line {
     number: usize,
     start: usize,
@@ -39,12 +40,10 @@ fn line_of(text: &[u8], place: usize) -> Line
 {
     let mut number: usize = 1;
     let mut start: usize = 0;
-    let mut at: usize = 0;
-    while at < place {
-        at += 1;
-        if begins(text, at) {
+    for at in 0..place {
+        if begins(text, at + 1) {
             number += 1;
-            start = at;
+            start = at + 1;
         }
     }
     Line { number, start }
@@ -56,17 +55,12 @@ fn end_of(text: &[u8], place: usize) -> usize
     ensures lower_bound { place ≤ result }
     ensures upper_bound { result ≤ length text.now }
 {
-    let mut end = place;
-    while end < text.len() {
-        if text[end] == b'\n' {
+    for end in place..text.len() {
+        if text[end] == b'\n' || text[end] == b'\r' {
             return end;
         }
-        if text[end] == b'\r' {
-            return end;
-        }
-        end += 1;
     }
-    end
+    text.len()
 }
 
 // Where the part of a line that is shown begins: a long line is cut around the place.
@@ -122,49 +116,53 @@ fn draw(text: &[u8], from: usize, to: usize, bare: bool, out: &mut [u8])
     requires to_bound { to ≤ from + length out.old }
     requires to_in_bounds { to ≤ length text.now }
 {
-    let mut at = from;
-    while at < to {
+    for at in from..to {
         out[at - from] = drawn(text[at], bare);
-        at += 1;
     }
 }
 
 // A part of a line, and what stands behind it.
-fn show(text: &[u8], from: usize, to: usize, bare: bool, after: &[u8])
+fn show<W: Write>(
+    out: &mut W,
+    text: &[u8],
+    from: usize,
+    to: usize,
+    bare: bool,
+    after: &[u8],
+) -> io::Result<()>
     requires from_le_to { from ≤ to }
     requires to_bound { to ≤ from + 120 }
     requires to_in_bounds { to ≤ length text.now }
 {
-    let mut out = [0u8; 120];
-    draw(text, from, to, bare, &mut out);
-    let n = to - from;
-    io::write_all(STDOUT_FILENO, &out[0..n]);
-    io::write_all(STDOUT_FILENO, after);
+    let mut line = [0u8; 120];
+    draw(text, from, to, bare, &mut line);
+    out.write_all(&line[..to - from])?;
+    out.write_all(after)
 }
 
 // The line of a place, and a caret below it.
-fn show_line(text: &[u8], start: usize, place: usize)
+fn show_line<W: Write>(out: &mut W, text: &[u8], start: usize, place: usize) -> io::Result<()>
     requires start_le_place { start ≤ place }
     requires place_in_bounds { place ≤ length text.now }
 {
     let end = end_of(text, place);
     let from = window_start(start, place, end);
     let to = window_end(from, end);
-    show(text, from, to, false, b"\n");
-    show(text, from, place, true, b"^\n");
+    show(out, text, from, to, false, b"\n")?;
+    show(out, text, from, place, true, b"^\n")
 }
 
 // The file, line and column of a place, what is wrong there, and the line.
-pub fn point_out(file: &[u8], text: &[u8], place: usize)
+pub fn point_out<W: Write>(out: &mut W, file: &[u8], text: &[u8], place: usize) -> io::Result<()>
     requires text_len_bound { length text.now ≤ 65536 }
     requires place_in_bounds { place ≤ length text.now }
 {
     let line = line_of(text, place);
     let start = line.start;
-    io::write_all(STDOUT_FILENO, file);
-    io::write_all(STDOUT_FILENO, b":");
-    number(line.number, b":");
-    number(place - start + 1, b": ");
-    wording::explain(text, place);
-    show_line(text, start, place);
+    out.write_all(file)?;
+    out.write_all(b":")?;
+    number(out, line.number, b":")?;
+    number(out, place - start + 1, b": ")?;
+    wording::explain(out, text, place)?;
+    show_line(out, text, start, place)
 }

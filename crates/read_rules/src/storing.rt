@@ -1,91 +1,94 @@
 // Two files replaced, each in whole.
+use crate::failing::Failure;
+use std::fs::{File, OpenFile, OpenOptions};
+use std::io::{ErrorKind, Write};
+use std::rt::Files;
+use std::{fs, io};
 
-// Makes a new file under a name whose XXXXXX are replaced. It is made anew, since create_temp lets nobody but its owner read it.
-fn create_beside(name: &mut [u8]) -> i32 {
-    let kept = os::create_temp(name);
-    if kept < 0 {
-        return kept;
+// Makes a new file beside another, under the first name that no file has.
+fn create_beside<R: Files + AllocGlobal>(rt: &R, target: &str) -> io::Result<(String, R::File)> {
+    for i in 0..1000000u32 {
+        let name = format!(in rt.alloc(); "{target}.{i:06}")?;
+        match File::create_new(rt, name.as_str()) {
+            Ok(file) => return Ok((name, file)),
+            Err(e) if e.kind() == ErrorKind::AlreadyExists => {}
+            Err(e) => return Err(e),
+        }
     }
-    libc::close(kept);
-    os::unlink(name);
-    os::create(name)
+    Err(io::Error::from(ErrorKind::AlreadyExists))
 }
 
-// Fills an open file and closes it, with its bytes on the disk before it takes an old one's place.
-fn fill(file: i32, bytes: &[u8]) -> bool {
-    if !io::write_all(file, bytes) {
-        return false;
-    }
-    if libc::fsync(file) < 0 {
-        return false;
-    }
-    libc::close(file) == 0
+// Fills an open file, with its bytes on the disk before it takes an old one's place.
+fn fill<F: Write + OpenFile>(file: &mut F, bytes: &[u8]) -> io::Result<()> {
+    file.write_all(bytes)?;
+    file.sync_all()
 }
 
-// Writes the file that is to take the target's place; false where that fails, with nothing left of it.
-fn write_beside(target: &[u8], name: &mut [u8], bytes: &[u8]) -> bool {
-    let file = create_beside(name);
-    if file < 0 {
-        os::fail(target);
-        return false;
-    }
-    if fill(file, bytes) {
-        return true;
-    }
-    os::fail(target);
-    os::unlink(name);
-    false
+// Removes a file that is in nobody's way where that fails.
+fn remove(files: &impl Files, name: &str) {
+    let _ = fs::remove_file(files, name);
 }
 
-// Whether a folder has the name; a rename over it would fail, and then it may be late to leave all as it is.
-fn is_folder(name: &[u8]) -> bool {
-    let file = os::open_update(name);
-    if 0 <= file {
-        libc::close(file);
-        return false;
+// Writes the file that is to take the target's place, and gives its name; where that fails, nothing is left of it.
+fn write_beside<R: Files + AllocGlobal>(rt: &R, target: &str, bytes: &[u8]) -> io::Result<String> {
+    let (name, mut file) = create_beside(rt, target)?;
+    match fill(&mut file, bytes) {
+        Ok(()) => Ok(name),
+        Err(e) => {
+            remove(rt, name.as_str());
+            Err(e)
+        }
     }
-    os::errno() == libc::EISDIR
+}
+
+// Refuses a name that a folder has; a rename over it would fail, and then it may be late to leave all as it is.
+fn refuse_folder(files: &impl Files, name: &str) -> io::Result<()> {
+    match OpenOptions::new().read(true).write(true).open(files, name) {
+        Err(e) if e.kind() == ErrorKind::IsADirectory => Err(e),
+        _ => Ok(()),
+    }
+}
+
+fn failure(what: &'static str, error: io::Error) -> Failure {
+    Failure { what, error }
 }
 
 // Renames both new files. Two renames are not one: where the second fails, it is said that the first is done.
-fn replace(rules: &[u8], names: &[u8]) -> bool {
-    if os::rename(rules, b"rules.bin") < 0 {
-        os::fail(b"rules.bin");
-        os::unlink(rules);
-        os::unlink(names);
-        return false;
+fn replace(files: &impl Files, rules: &str, names: &str) -> Result<(), Failure> {
+    if let Err(e) = fs::rename(files, rules, "rules.bin") {
+        remove(files, rules);
+        remove(files, names);
+        return Err(failure("rules.bin", e));
     }
-    if os::rename(names, b"names.bin") < 0 {
-        os::fail(b"rules.bin is new, but names.bin");
-        os::unlink(names);
-        return false;
+    if let Err(e) = fs::rename(files, names, "names.bin") {
+        remove(files, names);
+        return Err(failure("rules.bin is new, but names.bin", e));
     }
-    true
+    Ok(())
 }
 
 // Writes both new files before either takes an old one's place.
-fn write(program: &[u8], list: &[u8]) -> bool {
-    let mut rules = *b"rules.bin.XXXXXX";
-    let mut names = *b"names.bin.XXXXXX";
-    if !write_beside(b"rules.bin", &mut rules, program) {
-        return false;
+fn write<R: Files + AllocGlobal>(rt: &R, program: &[u8], list: &[u8]) -> Result<(), Failure> {
+    let rules = match write_beside(rt, "rules.bin", program) {
+        Ok(rules) => rules,
+        Err(e) => return Err(failure("rules.bin", e)),
+    };
+    match write_beside(rt, "names.bin", list) {
+        Ok(names) => replace(rt, rules.as_str(), names.as_str()),
+        Err(e) => {
+            remove(rt, rules.as_str());
+            Err(failure("names.bin", e))
+        }
     }
-    if !write_beside(b"names.bin", &mut names, list) {
-        os::unlink(&rules);
-        return false;
-    }
-    replace(&rules, &names)
 }
 
-// Stores a program and its name list; false where that fails, which is told on standard error.
-pub fn store(program: &[u8], list: &[u8]) -> bool {
-    if is_folder(b"rules.bin") {
-        os::fail(b"rules.bin");
-        return false;
+// Stores a program and its name list; an error says which of them is not stored.
+pub fn store<R: Files + AllocGlobal>(rt: &R, program: &[u8], list: &[u8]) -> Result<(), Failure> {
+    if let Err(e) = refuse_folder(rt, "rules.bin") {
+        return Err(failure("rules.bin", e));
     }
-    if is_folder(b"names.bin") {
-        os::fail(b"names.bin");
-        return false;
+    if let Err(e) = refuse_folder(rt, "names.bin") {
+        return Err(failure("names.bin", e));
     }
-    write(program, list)
+    write(rt, program, list)
 }
