@@ -41,16 +41,14 @@ pass_sentences-passed-requires c =
 
 pub loop-at-smaller : goal.loop-at-smaller
 loop-at-smaller c =
-    let read = c.read
-    in
+    let read = c.read in
     let got = rw c.in-Got.is at read.ensures in
     let T = taken_on c.loop-at.invariant.0 got c.take-taken.ensures c.if-taken-ne0.false c.take-taken.auto.stack in
     omega (arith, got_on got, c.pass_sentences-passed.ensures.0, T.inside)
 
 pub loop-at-preserved : goal.loop-at-preserved
 loop-at-preserved c =
-    let read = c.read
-    in
+    let read = c.read in
     let got = rw c.in-Got.is at read.ensures in
     let i = c.loop-at.invariant in
     let T = taken_on i.0 got c.take-taken.ensures c.if-taken-ne0.false c.take-taken.auto.stack in
