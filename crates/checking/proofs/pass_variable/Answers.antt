@@ -17,9 +17,6 @@ returns-then-not-is_fresh c =
 pub returns-then-state-eq-RIGHT : goal.returns-then-state-eq-RIGHT
 returns-then-state-eq-RIGHT c = λ st R. refused _ _ _ _ (omega arith)
 
-pub returns-then-state-gt15 : goal.returns-then-state-gt15
-returns-then-state-gt15 c = λ st R. refused _ _ _ _ (omega arith)
-
 pub overflow_cast-number : goal.overflow_cast-number
 overflow_cast-number c =
     omega (arith, c.if-number-gt15.false)
@@ -31,5 +28,5 @@ slot-requires c =
 pub returns : goal.returns
 returns c =
     λ st R. new_passed c.args.state c.requires.0 _ _ c.requires.1 c.requires.2 c.if-number-gt15.false st R
-    c.is_fresh.ensures (c.if-not-is_fresh.false) c.if-state-eq-RIGHT.false (omega (arith, c.if-state-gt15.false)) c.slot.ensures.0
+    c.is_fresh.ensures (c.if-not-is_fresh.false) c.if-state-eq-RIGHT.false (omega arith) c.slot.ensures.0
     c.with.ensures

@@ -13,10 +13,6 @@ pub bounds-b-i : goal.bounds-b-i
 bounds-b-i c =
     omega (arith, c.loop-i.invariant.0.long)
 
-pub returns-then-b-i-ne-CHARACTER : goal.returns-then-b-i-ne-CHARACTER
-returns-then-b-i-ne-CHARACTER c =
-    c.loop-i.invariant
-
 pub bounds-a-i-in-loop-i : goal.bounds-a-i-in-loop-i
 bounds-a-i-in-loop-i c =
     omega (arith, character_inside _ _ _ c.loop-i.invariant.0 c.loop-i-test.true c.if-a-i-ne-CHARACTER.false)
@@ -35,7 +31,7 @@ overflow_add-i-in-loop-i-2 c =
 
 pub loop-i-preserved : goal.loop-i-preserved
 loop-i-preserved c =
-    let k = compare_character _ _ _ c.loop-i.invariant.0 c.loop-i-test.true c.if-a-i-ne-CHARACTER.false c.if-b-i-ne-CHARACTER.false c.if-a-i.false in
+    let k = compare_character _ _ _ c.loop-i.invariant.0 c.loop-i-test.true c.if-a-i-ne-CHARACTER.false (omega arith) c.if-a-i.false in
     (k, omega (arith, c.loop-i.invariant.1))
 
 pub returns : goal.returns
