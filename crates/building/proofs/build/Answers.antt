@@ -12,7 +12,11 @@ pub put_element-n-requires : goal.put_element-n-requires
 put_element-n-requires c =
     let i = c.loop-at.invariant in
     let w = walk _ _ _ _ _ c.requires.from_le_to.1 c.loop-at-test.true i.whole i.ready _ c.length_of-len.ensures.0 in
-    record { known = w.known; binds_len = c.requires.binds_len; program_in_bounds = build_room _ _ _ _ _ _ _ _ _ _ i _ w c.requires.to_in_bounds }
+    record {
+      known = w.known;
+      binds_len = c.requires.binds_len;
+      program_in_bounds = build_room _ _ _ _ _ _ _ _ _ _ i _ w c.requires.to_in_bounds;
+    }
 
 pub overflow_add-at : goal.overflow_add-at
 overflow_add-at c =
@@ -40,5 +44,4 @@ pub shape_of-out : goal.shape_of-out
 shape_of-out c = c.loop-at.invariant.long
 
 pub returns : goal.returns
-returns c =
-    built _ _ _ _ _ _ _ _ _ _ c.loop-at.invariant c.loop-at-test.false c.requires.from_le_to.1
+returns c = built _ _ _ _ _ _ _ _ _ _ c.loop-at.invariant c.loop-at-test.false c.requires.from_le_to.1

@@ -14,7 +14,13 @@ build-m-requires c =
     let a = c.requires.from_le_pivot in
     let b = c.requires.whole_2 in
     let k = c.requires.binds_len in
-    record { from_le_to = (a.2, a.3); whole = b.0; ready = b.1; binds_len = k.0; to_in_bounds = (let z = k.1 in let e = c.build-n.ensures.0 in let l = c.build-n.auto.out in omega arith) }
+    record {
+      from_le_to = (a.2, a.3);
+      whole = b.0;
+      ready = b.1;
+      binds_len = k.0;
+      to_in_bounds = (let z = k.1 in let e = c.build-n.ensures.0 in let l = c.build-n.auto.out in omega arith);
+    }
 
 pub returns : goal.returns
 returns c =

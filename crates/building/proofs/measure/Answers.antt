@@ -59,5 +59,4 @@ loop-at-preserved c =
     )
 
 pub returns : goal.returns
-returns c =
-    measured_all _ _ _ _ _ _ _ _ _ _ c.loop-at.invariant.2 c.loop-at-test.false c.requires.given.fits
+returns c = measured_all _ _ _ _ _ _ _ _ _ _ c.loop-at.invariant.2 c.loop-at-test.false c.requires.given.fits

@@ -56,5 +56,4 @@ pub shape_of-calls : goal.shape_of-calls
 shape_of-calls c = c.loop-i.invariant.1.long
 
 pub returns : goal.returns
-returns c =
-    noted _ _ _ _ _ _ _ _ _ _ _ _ c.loop-i.invariant.1 c.loop-i-test.false c.requires.given.fits
+returns c = noted _ _ _ _ _ _ _ _ _ _ _ _ c.loop-i.invariant.1 c.loop-i-test.false c.requires.given.fits

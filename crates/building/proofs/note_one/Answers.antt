@@ -15,8 +15,7 @@ offset_bounds-calls-k c =
     search rules
 
 pub bounds-calls-k : goal.bounds-calls-k
-bounds-calls-k c =
-    (c.requires (sym c.is_call.ensures ∙ c.if-is_call.true)).0
+bounds-calls-k c = (c.requires (sym c.is_call.ensures ∙ c.if-is_call.true)).0
 
 pub overflow_add-result : goal.overflow_add-result
 overflow_add-result c =

@@ -27,7 +27,13 @@ fill-built-requires c =
     let r = c.requires.ready in
     let k = c.requires.binds_len in
     let q = c.pivot_part-value.ensures _ _ a.3 a.2 a.0 a.1 r in
-    let h = c.requires.hi_le_at in record { from_le_pivot = (q.upto.0, q.upto.1, q.upto_next, a.1); whole = q.before; whole_2 = q.after; binds_len = (k.0, (let z = parts_long _ _ _ _ _ _ _ _ _ _ _ h.0 h.1 q r in let y = k.1 in let x = k.2 in let w = h.1 in omega arith)) }
+    let h = c.requires.hi_le_at in
+    record {
+      from_le_pivot = (q.upto.0, q.upto.1, q.upto_next, a.1);
+      whole = q.before;
+      whole_2 = q.after;
+      binds_len = (k.0, (let z = parts_long _ _ _ _ _ _ _ _ _ _ _ h.0 h.1 q r in let y = k.1 in let x = k.2 in let w = h.1 in omega arith));
+    }
 
 pub overflow_sub-v : goal.overflow_sub-v
 overflow_sub-v c =

@@ -8,12 +8,10 @@ use Rattle.checking.proofs.Reading.{begun, ready, got_on, taken_bad, taken_on, u
 use Rattle.checking.proofs.first_bad.Goals as goal
 
 pub loop-at-init : goal.loop-at-init
-loop-at-init c =
-    (begun _ _ c.requires, refl)
+loop-at-init c = (begun _ _ c.requires, refl)
 
 pub shape_of-stack-in_default : goal.shape_of-stack-in_default
-shape_of-stack-in_default c =
-    c.loop-at.invariant.1
+shape_of-stack-in_default c = c.loop-at.invariant.1
 
 pub returns-in_default : goal.returns-in_default
 returns-in_default c =
@@ -21,12 +19,10 @@ returns-in_default c =
     sym (ap check_of (⊎_elim (unknown_bad i) (cut_bad i) (unread c.read.ensures (opened c.in_default.in_default-own.keys2) c.loop-at-test.true)))
 
 pub take-taken-requires : goal.take-taken-requires
-take-taken-requires c =
-    (c.moves-moves.ensures, ready c.loop-at.invariant.0)
+take-taken-requires c = (c.moves-moves.ensures, ready c.loop-at.invariant.0)
 
 pub shape_of-stack-then-taken-ne0 : goal.shape_of-stack-then-taken-ne0
-shape_of-stack-then-taken-ne0 c =
-    c.take-taken.auto.stack ∙ c.loop-at.invariant.1
+shape_of-stack-then-taken-ne0 c = c.take-taken.auto.stack ∙ c.loop-at.invariant.1
 
 pub returns-then-taken-ne0 : goal.returns-then-taken-ne0
 returns-then-taken-ne0 c =
@@ -55,16 +51,14 @@ loop-at-preserved c =
     (c.pass_sentences-passed.ensures.1 _ T, c.pass_sentences-passed.auto.stack ∙ c.take-taken.auto.stack ∙ i.1)
 
 pub shape_of-stack-then-may_end : goal.shape_of-stack-then-may_end
-shape_of-stack-then-may_end c =
-    c.loop-at.invariant.1
+shape_of-stack-then-may_end c = c.loop-at.invariant.1
 
 pub returns-then-may_end : goal.returns-then-may_end
 returns-then-may_end c =
     sym (ap check_of (over_good c.loop-at.invariant.0 c.loop-at-test.false c.may_end.ensures c.if-may_end.true))
 
 pub shape_of-stack-else-may_end : goal.shape_of-stack-else-may_end
-shape_of-stack-else-may_end c =
-    c.loop-at.invariant.1
+shape_of-stack-else-may_end c = c.loop-at.invariant.1
 
 pub returns-else-may_end : goal.returns-else-may_end
 returns-else-may_end c =

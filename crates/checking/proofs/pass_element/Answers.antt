@@ -3,44 +3,35 @@ use Rattle.checking.proofs.Passing.{refused}
 use Rattle.checking.proofs.pass_element.Goals as goal
 
 pub returns-in-Character : goal.returns-in-Character
-returns-in-Character c =
-    rw c.in-Character.is (c.pass_symbol.ensures _ _ _ c.requires.1 (omega arith) (omega arith))
+returns-in-Character c = rw c.in-Character.is (c.pass_symbol.ensures _ _ _ c.requires.1 (omega arith) (omega arith))
 
 pub returns-in-Name : goal.returns-in-Name
-returns-in-Name c =
-    rw c.in-Name.is (c.pass_symbol-in-Name.ensures _ _ _ c.requires.1 (omega arith) (omega arith))
+returns-in-Name c = rw c.in-Name.is (c.pass_symbol-in-Name.ensures _ _ _ c.requires.1 (omega arith) (omega arith))
 
 pub returns-in-Macrodigit : goal.returns-in-Macrodigit
 returns-in-Macrodigit c =
     rw c.in-Macrodigit.is (c.pass_symbol-in-Macrodigit.ensures _ _ _ c.requires.1 (omega arith) (omega arith))
 
 pub returns-in-Open : goal.returns-in-Open
-returns-in-Open c =
-    rw c.in-Open.is (c.pass_bracket.ensures _)
+returns-in-Open c = rw c.in-Open.is (c.pass_bracket.ensures _)
 
 pub returns-in-Close : goal.returns-in-Close
-returns-in-Close c =
-    rw c.in-Close.is (c.pass_bracket-in-Close.ensures _)
+returns-in-Close c = rw c.in-Close.is (c.pass_bracket-in-Close.ensures _)
 
 pub returns-in-Call : goal.returns-in-Call
-returns-in-Call c =
-    rw c.in-Call.is (c.pass_bracket-in-Call.ensures _)
+returns-in-Call c = rw c.in-Call.is (c.pass_bracket-in-Call.ensures _)
 
 pub returns-in-Return : goal.returns-in-Return
-returns-in-Return c =
-    rw c.in-Return.is (c.pass_bracket-in-Return.ensures _)
+returns-in-Return c = rw c.in-Return.is (c.pass_bracket-in-Return.ensures _)
 
 pub returns-in-SVariable : goal.returns-in-SVariable
-returns-in-SVariable c =
-    rw c.in-SVariable.is (c.pass_variable.ensures _ c.requires.1)
+returns-in-SVariable c = rw c.in-SVariable.is (c.pass_variable.ensures _ c.requires.1)
 
 pub returns-in-TVariable : goal.returns-in-TVariable
-returns-in-TVariable c =
-    rw c.in-TVariable.is (c.pass_variable-in-TVariable.ensures _ c.requires.1)
+returns-in-TVariable c = rw c.in-TVariable.is (c.pass_variable-in-TVariable.ensures _ c.requires.1)
 
 pub returns-in-EVariable : goal.returns-in-EVariable
-returns-in-EVariable c =
-    rw c.in-EVariable.is (c.pass_variable-in-EVariable.ensures _ c.requires.1)
+returns-in-EVariable c = rw c.in-EVariable.is (c.pass_variable-in-EVariable.ensures _ c.requires.1)
 
 pub returns-in_default : goal.returns-in_default
 returns-in_default c = refused _ _ _ _ (omega arith)

@@ -5,8 +5,7 @@ use Rattle.checking.proofs.Reading.{ended}
 use Rattle.checking.proofs.pass_end.Goals as goal
 
 pub state_after-requires : goal.state_after-requires
-state_after-requires c =
-    end_movable c.args.state _ (told c.ends_side.ensures c.if-not-ends_side.false)
+state_after-requires c = end_movable c.args.state _ (told c.ends_side.ensures c.if-not-ends_side.false)
 
 pub returns : goal.returns
 returns c = (

@@ -17,8 +17,7 @@ pass_end-end-requires c =
     (c.requires.0, (c.pass_side-side.ensures.1 _ (c.loop-stack.invariant.2 _ (c.enter-state.ensures _ _ (here _ _ _ _ c.requires.1 c.requires.2 c.requires.3)))).means.part)
 
 pub shape_of-stack-then-to-from : goal.shape_of-stack-then-to-from
-shape_of-stack-then-to-from c =
-    c.pass_side-side.auto.stack ∙ c.loop-stack.invariant.0
+shape_of-stack-then-to-from c = c.pass_side-side.auto.stack ∙ c.loop-stack.invariant.0
 
 pub returns-then-to-from : goal.returns-then-to-from
 returns-then-to-from c =
@@ -45,5 +44,4 @@ pub shape_of-stack : goal.shape_of-stack
 shape_of-stack c = c.loop-stack.invariant.0
 
 pub returns : goal.returns
-returns c =
-    (c.loop-stack.invariant.1, λ found R. c.loop-stack.invariant.2 found (c.enter-state.ensures _ found R))
+returns c = (c.loop-stack.invariant.1, λ found R. c.loop-stack.invariant.2 found (c.enter-state.ensures _ found R))

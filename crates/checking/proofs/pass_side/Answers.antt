@@ -9,8 +9,7 @@ pub loop-state-init : goal.loop-state-init
 loop-state-init c = (refl, omega arith, refl, λ found R. R)
 
 pub shape_of-stack-in_default : goal.shape_of-stack-in_default
-shape_of-stack-in_default c =
-    c.loop-state.invariant.2
+shape_of-stack-in_default c = c.loop-state.invariant.2
 
 pub returns-in_default : goal.returns-in_default
 returns-in_default c =

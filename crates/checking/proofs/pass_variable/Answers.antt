@@ -6,8 +6,7 @@ pub returns-then-number-gt15 : goal.returns-then-number-gt15
 returns-then-number-gt15 c = λ st R. refused _ _ _ _ (omega arith)
 
 pub overflow_add-state : goal.overflow_add-state
-overflow_add-state c =
-    omega (arith, few c.args.state c.requires.0)
+overflow_add-state c = omega (arith, few c.args.state c.requires.0)
 
 pub returns-then-not-is_fresh : goal.returns-then-not-is_fresh
 returns-then-not-is_fresh c =
@@ -18,12 +17,10 @@ pub returns-then-state-eq-RIGHT : goal.returns-then-state-eq-RIGHT
 returns-then-state-eq-RIGHT c = λ st R. refused _ _ _ _ (omega arith)
 
 pub overflow_cast-number : goal.overflow_cast-number
-overflow_cast-number c =
-    omega (arith, c.if-number-gt15.false)
+overflow_cast-number c = omega (arith, c.if-number-gt15.false)
 
 pub slot-requires : goal.slot-requires
-slot-requires c =
-    (c.requires.1, c.requires.2, c.if-number-gt15.false)
+slot-requires c = (c.requires.1, c.requires.2, c.if-number-gt15.false)
 
 pub returns : goal.returns
 returns c =

@@ -12,15 +12,13 @@ pub returns-in-Macrodigit : goal.returns-in-Macrodigit
 returns-in-Macrodigit c = rw c.in-Macrodigit.is (turn_macrodigit _)
 
 pub returns-in-Open : goal.returns-in-Open
-returns-in-Open c =
-    rw c.in-Open.is (turn_open c.requires)
+returns-in-Open c = rw c.in-Open.is (turn_open c.requires)
 
 pub returns-in-Close : goal.returns-in-Close
 returns-in-Close c = rw c.in-Close.is (turn_close c.closed.ensures)
 
 pub returns-in-Call : goal.returns-in-Call
-returns-in-Call c =
-    rw c.in-Call.is (turn_call _ c.requires)
+returns-in-Call c = rw c.in-Call.is (turn_call _ c.requires)
 
 pub returns-in-Return : goal.returns-in-Return
 returns-in-Return c = rw c.in-Return.is (turn_return c.closed-in-Return.ensures)

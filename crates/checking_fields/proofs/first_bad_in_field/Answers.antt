@@ -12,8 +12,7 @@ pub loop-c-init : goal.loop-c-init
 loop-c-init c = (begun _ _, refl)
 
 pub shape_of-stack-in_default : goal.shape_of-stack-in_default
-shape_of-stack-in_default c =
-    c.loop-c.invariant.1
+shape_of-stack-in_default c = c.loop-c.invariant.1
 
 pub returns-in_default : goal.returns-in_default
 returns-in_default c =
@@ -21,12 +20,10 @@ returns-in_default c =
     sym (ap check_of (⊎_elim (bad_kind i) (bad_cut i) (unread c.read.ensures (opened c.in_default.in_default-own.keys2) c.loop-c-test.true)))
 
 pub depth_behind-requires : goal.depth_behind-requires
-depth_behind-requires c =
-    omega (arith, c.loop-c-test.true, c.loop-c.invariant.0.deep, c.loop-c.invariant.1, c.requires)
+depth_behind-requires c = omega (arith, c.loop-c-test.true, c.loop-c.invariant.0.deep, c.loop-c.invariant.1, c.requires)
 
 pub shape_of-stack-in_default-depth_behind : goal.shape_of-stack-in_default-depth_behind
-shape_of-stack-in_default-depth_behind c =
-    c.depth_behind.auto.stack ∙ c.loop-c.invariant.1
+shape_of-stack-in_default-depth_behind c = c.depth_behind.auto.stack ∙ c.loop-c.invariant.1
 
 pub returns-in_default-depth_behind : goal.returns-in_default-depth_behind
 returns-in_default-depth_behind c =
@@ -34,8 +31,7 @@ returns-in_default-depth_behind c =
     sym (ap check_of (bad_turn c.loop-c.invariant.0 got (rw c.in_default-depth_behind.is at c.depth_behind.ensures)))
 
 pub loop-c-smaller : goal.loop-c-smaller
-loop-c-smaller c =
-    omega (arith, got_on (rw c.in-Got.is at c.read.ensures), characters_on c.onward-c.ensures)
+loop-c-smaller c = omega (arith, got_on (rw c.in-Got.is at c.read.ensures), characters_on c.onward-c.ensures)
 
 pub loop-c-preserved : goal.loop-c-preserved
 loop-c-preserved c =
@@ -45,17 +41,13 @@ loop-c-preserved c =
     (all (omega arith) t c.onward-c.ensures, c.depth_behind.auto.stack ∙ i.1)
 
 pub shape_of-stack-then-depth-eq0 : goal.shape_of-stack-then-depth-eq0
-shape_of-stack-then-depth-eq0 c =
-    c.loop-c.invariant.1
+shape_of-stack-then-depth-eq0 c = c.loop-c.invariant.1
 
 pub returns-then-depth-eq0 : goal.returns-then-depth-eq0
-returns-then-depth-eq0 c =
-    sym (ap check_of (ended_good c.loop-c.invariant.0 c.loop-c-test.false c.if-depth-eq0.true))
+returns-then-depth-eq0 c = sym (ap check_of (ended_good c.loop-c.invariant.0 c.loop-c-test.false c.if-depth-eq0.true))
 
 pub shape_of-stack-else-depth-eq0 : goal.shape_of-stack-else-depth-eq0
-shape_of-stack-else-depth-eq0 c =
-    c.loop-c.invariant.1
+shape_of-stack-else-depth-eq0 c = c.loop-c.invariant.1
 
 pub returns-else-depth-eq0 : goal.returns-else-depth-eq0
-returns-else-depth-eq0 c =
-    sym (ap check_of (ended_early c.loop-c.invariant.0 c.loop-c-test.false c.if-depth-eq0.false))
+returns-else-depth-eq0 c = sym (ap check_of (ended_early c.loop-c.invariant.0 c.loop-c-test.false c.if-depth-eq0.false))

@@ -18,7 +18,11 @@ pub returns-then-kind_at-eq-FUNCTION_END : goal.returns-then-kind_at-eq-FUNCTION
 returns-then-kind_at-eq-FUNCTION_END c = choose_none c.loop-c.invariant.1 c.kind_at.ensures c.if-kind_at-eq-FUNCTION_END.true
 
 pub seek_kind-equals-requires : goal.seek_kind-equals-requires
-seek_kind-equals-requires c = let i = c.loop-c.invariant.1 in record { whole = i.whole; at_value = has_equals i c.kind_at.ensures c.if-kind_at-eq-FUNCTION_END.false }
+seek_kind-equals-requires c = let i = c.loop-c.invariant.1 in
+    record {
+      whole = i.whole;
+      at_value = has_equals i c.kind_at.ensures c.if-kind_at-eq-FUNCTION_END.false;
+    }
 
 pub read_as-right-requires : goal.read_as-right-requires
 read_as-right-requires c =
@@ -29,7 +33,10 @@ seek_kind-end-requires c =
     let i = c.loop-c.invariant.1 in
     let e = c.seek_kind-equals.ensures in
     let r = c.read_as-right.ensures.next_is in
-    record { whole = (equals_at i c.kind_at.ensures c.if-kind_at-eq-FUNCTION_END.false e r).behind_whole; at_value = has_end i c.kind_at.ensures c.if-kind_at-eq-FUNCTION_END.false e r }
+    record {
+      whole = (equals_at i c.kind_at.ensures c.if-kind_at-eq-FUNCTION_END.false e r).behind_whole;
+      at_value = has_end i c.kind_at.ensures c.if-kind_at-eq-FUNCTION_END.false e r;
+    }
 
 pub read_as-next-requires : goal.read_as-next-requires
 read_as-next-requires c =

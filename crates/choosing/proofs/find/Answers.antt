@@ -35,8 +35,7 @@ pub loop-c-smaller : goal.loop-c-smaller
 loop-c-smaller c = let n = c.pass-passed.ensures.next_is in let t = c.loop-c-test.true in omega arith
 
 pub loop-c-preserved : goal.loop-c-preserved
-loop-c-preserved c =
-    found_other c.loop-c.invariant c.loop-c-test.true c.pass-passed.ensures c.if-passed-eq-HEADER.false
+loop-c-preserved c = found_other c.loop-c.invariant c.loop-c-test.true c.pass-passed.ensures c.if-passed-eq-HEADER.false
 
 pub returns : goal.returns
 returns c = found_end c.loop-c.invariant c.loop-c-test.false

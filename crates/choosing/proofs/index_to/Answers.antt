@@ -30,16 +30,14 @@ shape_of-indexed-then-spots-slot-ne0 c =
     length-set c.loop-c.indexed 0 c.loop-c.c.at ∙ c.loop-c.invariant.0 ∙ sym c.requires.0.one
 
 pub shape_of-spots-then-spots-slot-ne0 : goal.shape_of-spots-then-spots-slot-ne0
-shape_of-spots-then-spots-slot-ne0 c =
-    c.loop-c.invariant.1.long ∙ sym c.requires.0.table.long
+shape_of-spots-then-spots-slot-ne0 c = c.loop-c.invariant.1.long ∙ sym c.requires.0.table.long
 
 pub returns-then-spots-slot-ne0 : goal.returns-then-spots-slot-ne0
 returns-then-spots-slot-ne0 c =
     (cache_at _ c.loop-c.indexed _ c.loop-c.c.at c.loop-c.invariant.0 c.loop-c.invariant.1, λ z. absurd (c.if-spots-slot-ne0.true z))
 
 pub index_one-c-requires : goal.index_one-c-requires
-index_one-c-requires c =
-    (c.loop-c.invariant.1, c.loop-c-test.true, c.requires.2)
+index_one-c-requires c = (c.loop-c.invariant.1, c.loop-c-test.true, c.requires.2)
 
 pub loop-c-smaller : goal.loop-c-smaller
 loop-c-smaller c =
@@ -48,15 +46,13 @@ loop-c-smaller c =
     omega arith
 
 pub loop-c-preserved : goal.loop-c-preserved
-loop-c-preserved c =
-    (c.loop-c.invariant.0, c.index_one-c.ensures.0)
+loop-c-preserved c = (c.loop-c.invariant.0, c.index_one-c.ensures.0)
 
 pub bounds-indexed-0-2 : goal.bounds-indexed-0-2
 bounds-indexed-0-2 c = let k = c.loop-c.invariant.0 in omega arith
 
 pub shape_of-indexed : goal.shape_of-indexed
-shape_of-indexed c =
-    length-set c.loop-c.indexed 0 c.loop-c.c.at ∙ c.loop-c.invariant.0 ∙ sym c.requires.0.one
+shape_of-indexed c = length-set c.loop-c.indexed 0 c.loop-c.c.at ∙ c.loop-c.invariant.0 ∙ sym c.requires.0.one
 
 pub shape_of-spots : goal.shape_of-spots
 shape_of-spots c = c.loop-c.invariant.1.long ∙ sym c.requires.0.table.long

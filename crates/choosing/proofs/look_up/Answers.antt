@@ -5,8 +5,7 @@ use Rattle.choosing.proofs.Table.{table_none, table_in, table_some}
 use Rattle.choosing.proofs.look_up.Goals as goal
 
 pub overflow_cast-place : goal.overflow_cast-place
-overflow_cast-place c =
-    omega (arith, c.type_inv.spots c.slot_of-slot.result)
+overflow_cast-place c = omega (arith, c.type_inv.spots c.slot_of-slot.result)
 
 pub returns-then-place-eq0 : goal.returns-then-place-eq0
 returns-then-place-eq0 c =

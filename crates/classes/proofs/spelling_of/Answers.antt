@@ -14,8 +14,7 @@ overflow_add-result c =
     record { fits = omega (arith, capital_fits c.args.b _ c.class_of-k.ensures (search rules) c.if-k-eq-CAPITAL.true) }
 
 pub returns-then-k-eq-CAPITAL : goal.returns-then-k-eq-CAPITAL
-returns-then-k-eq-CAPITAL c =
-    spelling_capital _ _ c.class_of-k.ensures c.if-k-eq-CAPITAL.true
+returns-then-k-eq-CAPITAL c = spelling_capital _ _ c.class_of-k.ensures c.if-k-eq-CAPITAL.true
 
 pub returns-then-b-eq95 : goal.returns-then-b-eq95
 returns-then-b-eq95 c =

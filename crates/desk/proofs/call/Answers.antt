@@ -6,5 +6,4 @@ pub returns-then-number-ne1 : goal.returns-then-number-ne1
 returns-then-number-ne1 c = call_alters_nothing _ _ _ _ _ c.number.ensures (λ q. c.if-number-ne1.true (omega (arith, q)))
 
 pub returns : goal.returns
-returns c =
-    call_runs _ _ _ _ _ c.number.ensures (omega (arith, c.if-number-ne1.false)) c.run-answer.ensures
+returns c = call_runs _ _ _ _ _ c.number.ensures (omega (arith, c.if-number-ne1.false)) c.run-answer.ensures

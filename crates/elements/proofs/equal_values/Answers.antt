@@ -6,8 +6,7 @@ pub returns-then-a-b : goal.returns-then-a-b
 returns-then-a-b c = lengths_differ _ _ c.if-a-b.true
 
 pub shared_characters-at-requires : goal.shared_characters-at-requires
-shared_characters-at-requires c =
-    compare_start c.args.a.now c.args.b.now c.if-a-b.false c.requires
+shared_characters-at-requires c = compare_start c.args.a.now c.args.b.now c.if-a-b.false c.requires
 
 -- GOAL? loop-holds : tie.Need-loop-init invariant-loop decreases-loop
 -- loop-holds c = c.shared-characters.ensures.0
@@ -21,8 +20,7 @@ shared_end-requires c = (compare_proper _ _ _ c.loop-at.invariant c.loop-at-test
 --
 
 pub shared_characters-at-requires-in-At : goal.shared_characters-at-requires-in-At
-shared_characters-at-requires-in-At c =
-    compare_on _ _ _ _ c.loop-at.invariant (rw c.in-At.is at c.shared_end.ensures)
+shared_characters-at-requires-in-At c = compare_on _ _ _ _ c.loop-at.invariant (rw c.in-At.is at c.shared_end.ensures)
 
 -- GOAL? loop-less : tie.Need-loop-smaller invariant-loop decreases-loop
 -- loop-less c =

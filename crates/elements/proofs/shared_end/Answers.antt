@@ -7,8 +7,7 @@ pub pass-passed-requires : goal.pass-passed-requires
 pass-passed-requires c = proper_inside c.requires.0
 
 pub shared_bytes-requires : goal.shared_bytes-requires
-shared_bytes-requires c =
-    (c.requires.0, c.pass-passed.ensures.next_is, c.requires.1)
+shared_bytes-requires c = (c.requires.0, c.pass-passed.ensures.next_is, c.requires.1)
 
 pub returns-then-is_symbol : goal.returns-then-is_symbol
 returns-then-is_symbol c = c.shared_bytes.ensures
@@ -75,13 +74,10 @@ returns-in-End-read c =
     differ (λ q. not_over (proper_too p q) (rw c.in-End-read.is at c.read-in-Got.ensures))
 
 pub returns-in-Unknown : goal.returns-in-Unknown
-returns-in-Unknown c =
-    absurd (not_unknown c.requires.0 (rw c.in-Unknown.is at c.read.ensures))
+returns-in-Unknown c = absurd (not_unknown c.requires.0 (rw c.in-Unknown.is at c.read.ensures))
 
 pub returns-in-Cut : goal.returns-in-Cut
-returns-in-Cut c =
-    absurd (not-cut c.requires.0 (rw c.in-Cut.is at c.read.ensures))
+returns-in-Cut c = absurd (not-cut c.requires.0 (rw c.in-Cut.is at c.read.ensures))
 
 pub returns-in-End : goal.returns-in-End
-returns-in-End c =
-    absurd (not_over c.requires.0 (rw c.in-End.is at c.read.ensures))
+returns-in-End c = absurd (not_over c.requires.0 (rw c.in-End.is at c.read.ensures))

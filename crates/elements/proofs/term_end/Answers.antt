@@ -9,12 +9,10 @@ pub returns-then-s-at : goal.returns-then-s-at
 returns-then-s-at c = no_term_end c.args.s.now c.args.at c.if-s-at.true
 
 pub returns-then-k-eq-CLOSE : goal.returns-then-k-eq-CLOSE
-returns-then-k-eq-CLOSE c =
-    no_term_here c.args.s.now c.args.at (omega arith) c.if-k-eq-CLOSE.true
+returns-then-k-eq-CLOSE c = no_term_here c.args.s.now c.args.at (omega arith) c.if-k-eq-CLOSE.true
 
 pub shut_end-requires : goal.shut_end-requires
-shut_end-requires c =
-    shutting_here c.args.s.now c.args.at (omega arith) c.requires c.if-k-eq-OPEN.true
+shut_end-requires c = shutting_here c.args.s.now c.args.at (omega arith) c.requires c.if-k-eq-OPEN.true
 
 pub returns-then-k-eq-OPEN : goal.returns-then-k-eq-OPEN
 returns-then-k-eq-OPEN c =

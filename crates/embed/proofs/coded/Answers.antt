@@ -19,4 +19,6 @@ pub returns-in-7 : goal.returns-in-7
 returns-in-7 c = λ used place p f. ap (λ n. pointer n used place p f) (sym c.in-7.is)
 
 pub returns-in_default : goal.returns-in_default
-returns-in_default c = no_code _ c.in_default.in_default-own.rest.0.0.0.0.1 c.in_default.in_default-own.rest.0.0.0.1 c.in_default.in_default-own.rest.0.0.1 c.in_default.in_default-own.rest.0.1 c.in_default.in_default-own.rest.1
+returns-in_default c =
+    let q = c.in_default.in_default-own.rest in
+    no_code _ q.0.0.0.0.1 q.0.0.0.1 q.0.0.1 q.0.1 q.1

@@ -9,24 +9,19 @@ use Rattle.elements.proofs.Places.{proper_inside}
 use Rattle.foreseeing.proofs.before_bracket.Goals as goal
 
 pub pass-passed-requires : goal.pass-passed-requires
-pass-passed-requires c =
-    proper_inside (left_proper c.requires.0)
+pass-passed-requires c = proper_inside (left_proper c.requires.0)
 
 pub slot_at-slot-requires : goal.slot_at-slot-requires
-slot_at-slot-requires c =
-    (c.requires.0, c.pass-passed.ensures.kind_is)
+slot_at-slot-requires c = (c.requires.0, c.pass-passed.ensures.kind_is)
 
 pub slice_bounds-before_bracketed-count : goal.slice_bounds-before_bracketed-count
-slice_bounds-before_bracketed-count c =
-    omega (arith, c.pass-passed.ensures.next_is)
+slice_bounds-before_bracketed-count c = omega (arith, c.pass-passed.ensures.next_is)
 
 pub slice_bounds-before_bracketed-start : goal.slice_bounds-before_bracketed-start
-slice_bounds-before_bracketed-start c =
-    omega (arith, c.pass-passed.ensures.next_is)
+slice_bounds-before_bracketed-start c = omega (arith, c.pass-passed.ensures.next_is)
 
 pub slice_bounds-before_bracketed-end : goal.slice_bounds-before_bracketed-end
-slice_bounds-before_bracketed-end c =
-    (next_here c.requires.0 c.pass-passed.ensures c.slot_at-slot.ensures).split.fits
+slice_bounds-before_bracketed-end c = (next_here c.requires.0 c.pass-passed.ensures c.slot_at-slot.ensures).split.fits
 
 pub returns-then-slot-eq-SLOTS : goal.returns-then-slot-eq-SLOTS
 returns-then-slot-eq-SLOTS c =
@@ -39,24 +34,19 @@ pub has-requires : goal.has-requires
 has-requires c = omega (arith, c.slot_at-slot.ensures.high)
 
 pub offset_bounds-binds-slot : goal.offset_bounds-binds-slot
-offset_bounds-binds-slot c =
-    omega (arith, c.slot_at-slot.ensures.high, c.requires.1.long)
+offset_bounds-binds-slot c = omega (arith, c.slot_at-slot.ensures.high, c.requires.1.long)
 
 pub bounds-binds-slot : goal.bounds-binds-slot
-bounds-binds-slot c =
-    omega (arith, c.slot_at-slot.ensures.high, c.requires.1.long)
+bounds-binds-slot c = omega (arith, c.slot_at-slot.ensures.high, c.requires.1.long)
 
 pub overflow_add-to : goal.overflow_add-to
-overflow_add-to c =
-    omega (arith, c.slot_at-slot.ensures.high)
+overflow_add-to c = omega (arith, c.slot_at-slot.ensures.high)
 
 pub offset_bounds-binds-slot-then-has : goal.offset_bounds-binds-slot-then-has
-offset_bounds-binds-slot-then-has c =
-    omega (arith, c.slot_at-slot.ensures.high, c.requires.1.long)
+offset_bounds-binds-slot-then-has c = omega (arith, c.slot_at-slot.ensures.high, c.requires.1.long)
 
 pub bounds-binds-slot-then-has : goal.bounds-binds-slot-then-has
-bounds-binds-slot-then-has c =
-    omega (arith, c.slot_at-slot.ensures.high, c.requires.1.long)
+bounds-binds-slot-then-has c = omega (arith, c.slot_at-slot.ensures.high, c.requires.1.long)
 
 pub slice_bounds-before_bracketed-count-then-has : goal.slice_bounds-before_bracketed-count-then-has
 slice_bounds-before_bracketed-count-then-has c =
@@ -82,8 +72,7 @@ returns-then-has c =
     (sym c.has.ensures ∙ c.if-has.true)))
 
 pub slice_bounds-before_bracketed-end-2 : goal.slice_bounds-before_bracketed-end-2
-slice_bounds-before_bracketed-end-2 c =
-    omega (arith, c.requires.0.inside)
+slice_bounds-before_bracketed-end-2 c = omega (arith, c.requires.0.inside)
 
 pub returns : goal.returns
 returns c =

@@ -4,8 +4,7 @@ use mathlib.Core.Path.{refl}
 use Rattle.foreseeing.proofs.before_value.Goals as goal
 
 pub returns-then-last : goal.returns-then-last
-returns-then-last c =
-    value_last c.args.value.now c.args.arg.now _ c.less-end.ensures c.if-last.true c.between.ensures
+returns-then-last c = value_last c.args.value.now c.args.arg.now _ c.less-end.ensures c.if-last.true c.between.ensures
 
 pub returns-then-value-eq0 : goal.returns-then-value-eq0
 returns-then-value-eq0 c = sound_between _ _ c.between-then-value-eq0.ensures (omega arith) (λ i h k. (omega arith, h))

@@ -26,8 +26,7 @@ pub returns-then-w-gt255 : goal.returns-then-w-gt255
 returns-then-w-gt255 c = may
 
 pub overflow_cast-arg : goal.overflow_cast-arg
-overflow_cast-arg c =
-    omega (arith, c.type_inv.arg (c.args.at + 1))
+overflow_cast-arg c = omega (arith, c.type_inv.arg (c.args.at + 1))
 
 pub returns-then-arg-at-3 : goal.returns-then-arg-at-3
 returns-then-arg-at-3 c = may_not (other_second (omega arith) (omega arith) c.if-arg-at-3.true)
@@ -36,9 +35,7 @@ pub returns-then-w-gt255-2 : goal.returns-then-w-gt255-2
 returns-then-w-gt255-2 c = may
 
 pub overflow_cast-result : goal.overflow_cast-result
-overflow_cast-result c =
-    omega (arith, c.type_inv.arg (c.args.at + 2))
+overflow_cast-result c = omega (arith, c.type_inv.arg (c.args.at + 2))
 
 pub returns : goal.returns
-returns c =
-    third_told c.if-w-eq0.false (omega arith)
+returns c = third_told c.if-w-eq0.false (omega arith)

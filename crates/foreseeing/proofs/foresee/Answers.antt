@@ -10,8 +10,7 @@ use Rattle.elements.proofs.Places.{proper_inside}
 use Rattle.foreseeing.proofs.foresee.Goals as goal
 
 pub pass-passed-requires : goal.pass-passed-requires
-pass-passed-requires c =
-    proper_inside (left_proper c.requires.0)
+pass-passed-requires c = proper_inside (left_proper c.requires.0)
 
 pub before_bracket-requires : goal.before_bracket-requires
 before_bracket-requires c = (
@@ -34,20 +33,16 @@ returns-then-passed-eq-OPEN c =
     y.split.fits)
 
 pub slot_at-slot-requires : goal.slot_at-slot-requires
-slot_at-slot-requires c =
-    (c.requires.0, c.pass-passed.ensures.kind_is)
+slot_at-slot-requires c = (c.requires.0, c.pass-passed.ensures.kind_is)
 
 pub slice_bounds-before_value-count : goal.slice_bounds-before_value-count
-slice_bounds-before_value-count c =
-    omega (arith, c.pass-passed.ensures.next_is)
+slice_bounds-before_value-count c = omega (arith, c.pass-passed.ensures.next_is)
 
 pub slice_bounds-before_value-start : goal.slice_bounds-before_value-start
-slice_bounds-before_value-start c =
-    omega (arith, c.pass-passed.ensures.next_is)
+slice_bounds-before_value-start c = omega (arith, c.pass-passed.ensures.next_is)
 
 pub slice_bounds-before_value-end : goal.slice_bounds-before_value-end
-slice_bounds-before_value-end c =
-    (next_here c.requires.0 c.pass-passed.ensures c.slot_at-slot.ensures).split.fits
+slice_bounds-before_value-end c = (next_here c.requires.0 c.pass-passed.ensures c.slot_at-slot.ensures).split.fits
 
 pub before_value-requires : goal.before_value-requires
 before_value-requires c =
@@ -64,24 +59,19 @@ pub has-requires : goal.has-requires
 has-requires c = omega (arith, c.slot_at-slot.ensures.high)
 
 pub offset_bounds-binds-slot : goal.offset_bounds-binds-slot
-offset_bounds-binds-slot c =
-    omega (arith, c.slot_at-slot.ensures.high, c.requires.1.table.long)
+offset_bounds-binds-slot c = omega (arith, c.slot_at-slot.ensures.high, c.requires.1.table.long)
 
 pub bounds-binds-slot : goal.bounds-binds-slot
-bounds-binds-slot c =
-    omega (arith, c.slot_at-slot.ensures.high, c.requires.1.table.long)
+bounds-binds-slot c = omega (arith, c.slot_at-slot.ensures.high, c.requires.1.table.long)
 
 pub overflow_add-to : goal.overflow_add-to
-overflow_add-to c =
-    omega (arith, c.slot_at-slot.ensures.high)
+overflow_add-to c = omega (arith, c.slot_at-slot.ensures.high)
 
 pub offset_bounds-binds-slot-then-has : goal.offset_bounds-binds-slot-then-has
-offset_bounds-binds-slot-then-has c =
-    omega (arith, c.slot_at-slot.ensures.high, c.requires.1.table.long)
+offset_bounds-binds-slot-then-has c = omega (arith, c.slot_at-slot.ensures.high, c.requires.1.table.long)
 
 pub bounds-binds-slot-then-has : goal.bounds-binds-slot-then-has
-bounds-binds-slot-then-has c =
-    omega (arith, c.slot_at-slot.ensures.high, c.requires.1.table.long)
+bounds-binds-slot-then-has c = omega (arith, c.slot_at-slot.ensures.high, c.requires.1.table.long)
 
 pub slice_bounds-before_value-count-then-has : goal.slice_bounds-before_value-count-then-has
 slice_bounds-before_value-count-then-has c =
@@ -111,16 +101,13 @@ returns-then-has c =
     (λ h. eqb-true _ _ h) c.if-slot-eq-SLOTS.false (sym c.has.ensures ∙ c.if-has.true))
 
 pub overflow_sub-half : goal.overflow_sub-half
-overflow_sub-half c =
-    omega (arith, c.requires.1.arg_fits)
+overflow_sub-half c = omega (arith, c.requires.1.arg_fits)
 
 pub overflow_sub-arg : goal.overflow_sub-arg
-overflow_sub-arg c =
-    omega (arith, c.requires.1.arg_fits)
+overflow_sub-arg c = omega (arith, c.requires.1.arg_fits)
 
 pub overflow_add-at : goal.overflow_add-at
-overflow_add-at c =
-    omega (arith, c.requires.1.arg_fits)
+overflow_add-at c = omega (arith, c.requires.1.arg_fits)
 
 pub returns-then-slot-own : goal.returns-then-slot-own
 returns-then-slot-own c =

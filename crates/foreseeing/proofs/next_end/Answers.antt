@@ -11,12 +11,10 @@ pub returns-then-can_end : goal.returns-then-can_end
 returns-then-can_end c = ends_at c.loop-w.invariant
 
 pub term_end-requires : goal.term_end-requires
-term_end-requires c =
-    skipped_level c.requires.0 c.loop-w.invariant
+term_end-requires c = skipped_level c.requires.0 c.loop-w.invariant
 
 pub run_end-requires : goal.run_end-requires
-run_end-requires c =
-    (c.requires.1.fits, (term_less (rw c.in-At.is at c.term_end.ensures)).1)
+run_end-requires c = (c.requires.1.fits, (term_less (rw c.in-At.is at c.term_end.ensures)).1)
 
 pub past_characters-behind-requires : goal.past_characters-behind-requires
 past_characters-behind-requires c = c.run_end.ensures.fits

@@ -20,23 +20,19 @@ run_field-requires c =
     }
 
 pub shape_of-field-in-Good : goal.shape_of-field-in-Good
-shape_of-field-in-Good c =
-    c.run_field.auto.field
+shape_of-field-in-Good c = c.run_field.auto.field
 
 pub shape_of-scratch-in-Good : goal.shape_of-scratch-in-Good
-shape_of-scratch-in-Good c =
-    c.run_field.auto.scratch
+shape_of-scratch-in-Good c = c.run_field.auto.scratch
 
 pub returns-in-Good : goal.returns-in-Good
-returns-in-Good c =
-    c.run_field.ensures
+returns-in-Good c = c.run_field.ensures
 
 pub shape_of-field-in-Bad : goal.shape_of-field-in-Bad
 shape_of-field-in-Bad c = refl
 
 pub shape_of-scratch-in-Bad : goal.shape_of-scratch-in-Bad
-shape_of-scratch-in-Bad c =
-    c.clear.auto.s
+shape_of-scratch-in-Bad c = c.clear.auto.s
 
 pub returns-in-Bad : goal.returns-in-Bad
 returns-in-Bad c =

@@ -15,12 +15,10 @@ run_checked-requires c =
     (field_good (bad_field _) (c.check_field.ensures.0 ∙ field_check_lem _ _ _ _ c.requires) c.in-Good.is)
 
 pub shape_of-field-in-Good : goal.shape_of-field-in-Good
-shape_of-field-in-Good c =
-    c.run_checked.auto.field
+shape_of-field-in-Good c = c.run_checked.auto.field
 
 pub shape_of-scratch-in-Good : goal.shape_of-scratch-in-Good
-shape_of-scratch-in-Good c =
-    c.run_checked.auto.scratch ∙ c.check_field.auto.scratch
+shape_of-scratch-in-Good c = c.run_checked.auto.scratch ∙ c.check_field.auto.scratch
 
 pub returns-in-Good : goal.returns-in-Good
 returns-in-Good c =
@@ -31,8 +29,7 @@ pub shape_of-field-in-Bad : goal.shape_of-field-in-Bad
 shape_of-field-in-Bad c = refl
 
 pub shape_of-scratch-in-Bad : goal.shape_of-scratch-in-Bad
-shape_of-scratch-in-Bad c =
-    c.check_field.auto.scratch
+shape_of-scratch-in-Bad c = c.check_field.auto.scratch
 
 pub returns-in-Bad : goal.returns-in-Bad
 returns-in-Bad c =
@@ -43,8 +40,7 @@ pub shape_of-field-in-Short : goal.shape_of-field-in-Short
 shape_of-field-in-Short c = refl
 
 pub shape_of-scratch-in-Short : goal.shape_of-scratch-in-Short
-shape_of-scratch-in-Short c =
-    c.check_field.auto.scratch
+shape_of-scratch-in-Short c = c.check_field.auto.scratch
 
 pub returns-in-Short : goal.returns-in-Short
 returns-in-Short c =

@@ -8,8 +8,7 @@ use Rattle.elements.proofs.Places.{proper_inside}
 use Rattle.matching.proofs.+match_rest_try_lengths.Goals as goal
 
 pub match_rest-loop-here-init : goal.match_rest-loop-here-init
-match_rest-loop-here-init t c =
-    going_start c.requires
+match_rest-loop-here-init t c = going_start c.requires
 
 pub match_rest-pass-passed-requires : goal.match_rest-pass-passed-requires
 match_rest-pass-passed-requires t c = proper_inside (left_proper (going_left c.loop-here.invariant c.loop-here-test.true))
@@ -77,8 +76,7 @@ try_lengths-settle-requires t c =
     record { long = c.requires.0.table.long; high = omega (arith, c.requires.1.high) }
 
 pub try_lengths-returns-then-j-left : goal.try_lengths-returns-then-j-left
-try_lengths-returns-then-j-left t c =
-    takes_all c.requires.0 c.requires.1 c.if-j-left.true c.settle.ensures
+try_lengths-returns-then-j-left t c = takes_all c.requires.0 c.requires.1 c.if-j-left.true c.settle.ensures
 
 pub try_lengths-foresee-w-requires : goal.try_lengths-foresee-w-requires
 try_lengths-foresee-w-requires t c = (
@@ -92,8 +90,7 @@ try_lengths-foresee-w-requires t c = (
 )
 
 pub try_lengths-loop-end-init : goal.try_lengths-loop-end-init
-try_lengths-loop-end-init t c =
-    trying_start c.requires.0 c.requires.1
+try_lengths-loop-end-init t c = trying_start c.requires.0 c.requires.1
 
 pub try_lengths-next_end-requires : goal.try_lengths-next_end-requires
 try_lengths-next_end-requires t c = (trying_level c.loop-end.invariant, c.foresee-w.ensures.usable)

@@ -14,8 +14,7 @@ returns-then-x-eq0 c =
     (hash_end c.args.text.now _ _ (tail_of_lem _ _ c.spelling_of-x.ensures) c.if-x-eq0.true ∙ c.loop-i.invariant.0, c.loop-i.invariant.1)
 
 pub mix-h-requires : goal.mix-h-requires
-mix-h-requires c =
-    c.loop-i.invariant.1
+mix-h-requires c = c.loop-i.invariant.1
 
 pub loop-i-preserved : goal.loop-i-preserved
 loop-i-preserved c = (

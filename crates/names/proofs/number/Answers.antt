@@ -7,5 +7,4 @@ returns-then-r-n c =
     c.add.ensures
 
 pub returns-else-r-n : goal.returns-else-r-n
-returns-else-r-n c =
-    numbered_old c.requires.index c.args.at _ c.find-r.ensures c.if-r-n.false
+returns-else-r-n c = numbered_old c.requires.index c.args.at _ c.find-r.ensures c.if-r-n.false

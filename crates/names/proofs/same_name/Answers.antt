@@ -4,8 +4,7 @@ use Rattle.names.proofs.Spelling.{tail_of_lem, alike_no, alike_yes, alike_on, al
 use Rattle.names.proofs.same_name.Goals as goal
 
 pub returns-then-text-a : goal.returns-then-text-a
-returns-then-text-a c =
-    first_differs _ _ _ c.requires.a_in_bounds.0 c.requires.a_in_bounds.1 c.if-text-a.true
+returns-then-text-a c = first_differs _ _ _ c.requires.a_in_bounds.0 c.requires.a_in_bounds.1 c.if-text-a.true
 
 pub loop-i-init : goal.loop-i-init
 loop-i-init c = (refl, omega arith)

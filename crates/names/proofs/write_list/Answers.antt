@@ -4,12 +4,10 @@ use native.Mathlib.Omega.{arith}
 use Rattle.names.proofs.write_list.Goals as goal
 
 pub loop-k-init : goal.loop-k-init
-loop-k-init c =
-    (written_none c.args.list.now c.clear.ensures _ _, omega arith)
+loop-k-init c = (written_none c.args.list.now c.clear.ensures _ _, omega arith)
 
 pub bounds-firsts-k : goal.bounds-firsts-k
-bounds-firsts-k c =
-    omega (arith, c.requires.1.room)
+bounds-firsts-k c = omega (arith, c.requires.1.room)
 
 pub overflow_cast-o : goal.overflow_cast-o
 overflow_cast-o c = omega (arith, c.type_inv.firsts c.loop-k.k)
@@ -30,8 +28,7 @@ loop-k-preserved c = (
 )
 
 pub shape_of-list : goal.shape_of-list
-shape_of-list c =
-    c.loop-k.invariant.0.long ∙ cleared_long c.args.list.now c.clear.ensures
+shape_of-list c = c.loop-k.invariant.0.long ∙ cleared_long c.args.list.now c.clear.ensures
 
 pub returns : goal.returns
 returns c =

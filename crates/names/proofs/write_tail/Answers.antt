@@ -9,8 +9,7 @@ pub loop-i-init : goal.loop-i-init
 loop-i-init c = (record { is = refl; room = c.requires.1 }, refl)
 
 pub shape_of-list-then-x-eq0 : goal.shape_of-list-then-x-eq0
-shape_of-list-then-x-eq0 c =
-    c.loop-i.invariant.1
+shape_of-list-then-x-eq0 c = c.loop-i.invariant.1
 
 pub returns-then-x-eq0 : goal.returns-then-x-eq0
 returns-then-x-eq0 c =

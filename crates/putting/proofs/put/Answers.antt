@@ -3,16 +3,14 @@ use Rattle.putting.proofs.Writing.{filled_most}
 use Rattle.putting.proofs.put.Goals as goal
 
 pub take-taken-requires : goal.take-taken-requires
-take-taken-requires c =
-    (c.requires.0, ready_of c.requires.1.stands)
+take-taken-requires c = (c.requires.0, ready_of c.requires.1.stands)
 
 pub returns-then-taken-ne0 : goal.returns-then-taken-ne0
 returns-then-taken-ne0 c =
     put_bad c.args.reader c.args.e c.args.stack.now c.args.buf.now _ _ c.take-taken.ensures c.requires.2 c.if-taken-ne0.true _
 
 pub write-requires : goal.write-requires
-write-requires c =
-    (filled_most c.requires.1.stands.filled, c.requires.1.stands.short)
+write-requires c = (filled_most c.requires.1.stands.filled, c.requires.1.stands.short)
 
 pub returns : goal.returns
 returns c =

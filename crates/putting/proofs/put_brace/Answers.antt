@@ -8,17 +8,14 @@ use Rattle.putting.proofs.put_brace.Goals as goal
 
 pub put-requires : goal.put-requires
 unfolding body
-put-requires c =
-    (c.requires.0, c.requires.1, omega arith)
+put-requires c = (c.requires.0, c.requires.1, omega arith)
 
 pub returns-then-state-ne-RIGHT : goal.returns-then-state-ne-RIGHT
-returns-then-state-ne-RIGHT c =
-    onward_as (brace_other c.if-state-ne-RIGHT.true) c.put.ensures
+returns-then-state-ne-RIGHT c = onward_as (brace_other c.if-state-ne-RIGHT.true) c.put.ensures
 
 pub put-requires-2 : goal.put-requires-2
 unfolding body
-put-requires-2 c =
-    (c.requires.0, c.requires.1, omega arith)
+put-requires-2 c = (c.requires.0, c.requires.1, omega arith)
 
 pub returns-in_default : goal.returns-in_default
 returns-in_default c =
@@ -26,8 +23,7 @@ returns-in_default c =
 
 pub put-requires-3 : goal.put-requires-3
 unfolding body
-put-requires-3 c =
-    (c.requires.0, led_able c.requires.1 (led c.put-2.ensures c.in-Good.is), omega arith)
+put-requires-3 c = (c.requires.0, led_able c.requires.1 (led c.put-2.ensures c.in-Good.is), omega arith)
 
 pub returns : goal.returns
 returns c =

@@ -8,8 +8,7 @@ use Rattle.putting.proofs.Characters.{past_more, turn, turn_bad, turn_over}
 use Rattle.putting.proofs.put_characters.Goals as goal
 
 pub loop-i-init : goal.loop-i-init
-loop-i-init c =
-    (going_from _ _ _ _, c.requires.3, c.requires.1, refl, refl)
+loop-i-init c = (going_from _ _ _ _, c.requires.3, c.requires.1, refl, refl)
 
 pub bounds-text-i : goal.bounds-text-i
 bounds-text-i c = let (g, h, a, l, m) = c.loop-i.invariant in omega (arith, h.inside, c.loop-i-test.true)

@@ -6,32 +6,26 @@ use Rattle.putting.proofs.Characters.{plain_more, runs_none, in_side, runs_from,
 use Rattle.putting.proofs.put_run.Goals as goal
 
 pub returns-then-state-lt-LEFT : goal.returns-then-state-lt-LEFT
-returns-then-state-lt-LEFT c =
-    (omega arith, runs_none c.args.reader c.args.buf.now c.requires.2)
+returns-then-state-lt-LEFT c = (omega arith, runs_none c.args.reader c.args.buf.now c.requires.2)
 
 pub returns-then-state-gt-RIGHT : goal.returns-then-state-gt-RIGHT
-returns-then-state-gt-RIGHT c =
-    (omega arith, runs_none c.args.reader c.args.buf.now c.requires.2)
+returns-then-state-gt-RIGHT c = (omega arith, runs_none c.args.reader c.args.buf.now c.requires.2)
 
 pub overflow_sub-last : goal.overflow_sub-last
-overflow_sub-last c =
-    omega (arith, c.requires.2.most)
+overflow_sub-last c = omega (arith, c.requires.2.most)
 
 pub returns-then-n-eq0 : goal.returns-then-n-eq0
-returns-then-n-eq0 c =
-    (omega arith, runs_none c.args.reader c.args.buf.now c.requires.2)
+returns-then-n-eq0 c = (omega arith, runs_none c.args.reader c.args.buf.now c.requires.2)
 
 pub loop-k-init : goal.loop-k-init
-loop-k-init c =
-    (omega arith, runs_from c.args.reader c.args.buf.now c.requires.2, refl)
+loop-k-init c = (omega arith, runs_from c.args.reader c.args.buf.now c.requires.2, refl)
 
 pub overflow_add-b : goal.overflow_add-b
 overflow_add-b c =
     omega (arith, c.loop-k-test.true, c.loop-k.invariant.0, c.sure-n.ensures.most, c.requires.2.inside, c.requires.2.most, c.requires.0)
 
 pub bounds-text-from : goal.bounds-text-from
-bounds-text-from c =
-    omega (arith, c.loop-k-test.true, c.sure-n.ensures.most, c.requires.2.inside, c.requires.2.most)
+bounds-text-from c = omega (arith, c.loop-k-test.true, c.sure-n.ensures.most, c.requires.2.inside, c.requires.2.most)
 
 pub overflow_add-result : goal.overflow_add-result
 overflow_add-result c =
@@ -43,12 +37,10 @@ further-requires c =
     (omega (arith, c.loop-k.invariant.0, c.sure-n.ensures.side m), omega (arith, c.loop-k.invariant.0, c.sure-n.ensures.space m, c.requires.1))
 
 pub shape_of-buf-then-b-quote : goal.shape_of-buf-then-b-quote
-shape_of-buf-then-b-quote c =
-    c.loop-k.invariant.2
+shape_of-buf-then-b-quote c = c.loop-k.invariant.2
 
 pub returns-then-b-quote : goal.returns-then-b-quote
-returns-then-b-quote c =
-    (omega arith, rw c.further.ensures c.loop-k.invariant.1)
+returns-then-b-quote c = (omega arith, rw c.further.ensures c.loop-k.invariant.1)
 
 pub overflow_mul-buf : goal.overflow_mul-buf
 overflow_mul-buf c =

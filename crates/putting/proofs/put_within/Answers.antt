@@ -7,13 +7,11 @@ use Rattle.putting.proofs.put_within.Goals as goal
 
 pub put-requires : goal.put-requires
 unfolding body
-put-requires c =
-    (c.requires.0, c.requires.1, (entered_as c.in-Name.is c.requires.4).fits)
+put-requires c = (c.requires.0, c.requires.1, (entered_as c.in-Name.is c.requires.4).fits)
 
 pub put-requires-in-Call : goal.put-requires-in-Call
 unfolding body
-put-requires-in-Call c =
-    (c.requires.0, c.requires.1, (entered_as c.in-Call.is c.requires.4).fits)
+put-requires-in-Call c = (c.requires.0, c.requires.1, (entered_as c.in-Call.is c.requires.4).fits)
 
 pub put-requires-in-Macrodigit : goal.put-requires-in-Macrodigit
 unfolding body
@@ -44,13 +42,11 @@ returns-in-Malformed c = makes_none _ _ (λ p. rw c.in-Malformed.is)
 
 pub returns-in-Name : goal.returns-in-Name
 unfolding token_of within
-returns-in-Name c =
-    onward_as (makes _ _ _ (λ p. rw c.in-Name.is)) c.put.ensures
+returns-in-Name c = onward_as (makes _ _ _ (λ p. rw c.in-Name.is)) c.put.ensures
 
 pub returns-in-Call : goal.returns-in-Call
 unfolding token_of within
-returns-in-Call c =
-    onward_as (makes _ _ _ (λ p. rw c.in-Call.is)) c.put-in-Call.ensures
+returns-in-Call c = onward_as (makes _ _ _ (λ p. rw c.in-Call.is)) c.put-in-Call.ensures
 
 pub returns-in-Macrodigit : goal.returns-in-Macrodigit
 unfolding token_of within
@@ -59,8 +55,7 @@ returns-in-Macrodigit c =
 
 pub returns-in-String : goal.returns-in-String
 unfolding token_of within
-returns-in-String c =
-    onward_as (makes _ _ _ (λ p. rw c.in-String.is)) c.put_characters.ensures
+returns-in-String c = onward_as (makes _ _ _ (λ p. rw c.in-String.is)) c.put_characters.ensures
 
 pub returns-in-Variable : goal.returns-in-Variable
 unfolding token_of within
@@ -68,5 +63,4 @@ returns-in-Variable c =
     onward_as (makes _ _ _ (λ p. rw (c.in-Variable.is, c.variable.ensures.0, c.variable.ensures.1))) c.put-in-Variable.ensures
 
 pub returns-in-Sign : goal.returns-in-Sign
-returns-in-Sign c =
-    onward_as (makes_sign _ _ _ _ c.in-Sign.is) c.put_sign.ensures
+returns-in-Sign c = onward_as (makes_sign _ _ _ _ c.in-Sign.is) c.put_sign.ensures

@@ -12,8 +12,7 @@ write_number-requires c =
     omega (arith, c.length_of-size.ensures.0, c.if-buf-len.false, length-set c.args.buf.now c.args.len c.args.kind)
 
 pub shape_of-buf : goal.shape_of-buf
-shape_of-buf c =
-    c.write_number.auto.buf ∙ length-set c.args.buf.now c.args.len c.args.kind
+shape_of-buf c = c.write_number.auto.buf ∙ length-set c.args.buf.now c.args.len c.args.kind
 
 pub returns : goal.returns
 returns c =

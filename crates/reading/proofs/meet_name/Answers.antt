@@ -13,17 +13,13 @@ overflow_cast-result c =
     record { fits = omega (arith, c.number-number.ensures.most, c.requires.names_bound.0) }
 
 pub shape_of-firsts : goal.shape_of-firsts
-shape_of-firsts c =
-    c.number-number.ensures.long.0
+shape_of-firsts c = c.number-number.ensures.long.0
 
 pub shape_of-heads : goal.shape_of-heads
-shape_of-heads c =
-    c.number-number.ensures.long.1
+shape_of-heads c = c.number-number.ensures.long.1
 
 pub shape_of-links : goal.shape_of-links
-shape_of-links c =
-    c.number-number.ensures.long.2
+shape_of-links c = c.number-number.ensures.long.2
 
 pub returns : goal.returns
-returns c =
-    name_numbered c.number-number.ensures c.count_after.ensures c.counted.ensures
+returns c = name_numbered c.number-number.ensures c.count_after.ensures c.counted.ensures

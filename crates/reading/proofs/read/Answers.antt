@@ -13,16 +13,13 @@ returns-then-list-gt-LONGEST c =
     rw (refused_is c.refused-then-list-gt-LONGEST.ensures) (long_list _ _ _ c.if-text-gt-LONGEST.false c.if-program-gt-LONGEST.false c.if-list-gt-LONGEST.true)
 
 pub read_sized-requires : goal.read_sized-requires
-read_sized-requires c =
-    (c.if-text-gt-LONGEST.false, c.if-program-gt-LONGEST.false)
+read_sized-requires c = (c.if-text-gt-LONGEST.false, c.if-program-gt-LONGEST.false)
 
 pub shape_of-program : goal.shape_of-program
-shape_of-program c =
-    c.read_sized.auto.program
+shape_of-program c = c.read_sized.auto.program
 
 pub shape_of-list : goal.shape_of-list
-shape_of-list c =
-    c.read_sized.auto.list
+shape_of-list c = c.read_sized.auto.list
 
 pub returns : goal.returns
 returns c =

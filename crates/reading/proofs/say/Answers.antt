@@ -20,12 +20,10 @@ loop-at-init c =
     )
 
 pub lex-lexeme-requires : goal.lex-lexeme-requires
-lex-lexeme-requires c =
-    (c.requires.classes.0, c.requires.classes.1, c.loop-at-test.true)
+lex-lexeme-requires c = (c.requires.classes.0, c.requires.classes.1, c.loop-at-test.true)
 
 pub loop-at-smaller-then-is_gap : goal.loop-at-smaller-then-is_gap
-loop-at-smaller-then-is_gap c =
-    omega (arith, c.loop-at-test.true, c.lex-lexeme.ensures.ahead)
+loop-at-smaller-then-is_gap c = omega (arith, c.loop-at-test.true, c.lex-lexeme.ensures.ahead)
 
 pub loop-at-preserved-then-is_gap : goal.loop-at-preserved-then-is_gap
 loop-at-preserved-then-is_gap c =
@@ -41,11 +39,14 @@ loop-at-preserved-then-is_gap c =
 pub meet-met-requires : goal.meet-met-requires
 meet-met-requires c =
     let (R, f, h, l, b, k4) = c.loop-at.invariant in
-    record { classes = (c.requires.classes.0, c.requires.classes.1, c.loop-at-test.true); proper = (c.lex-lexeme.ensures.proper, R.spaced); tables = R.tables }
+    record {
+      classes = (c.requires.classes.0, c.requires.classes.1, c.loop-at-test.true);
+      proper = (c.lex-lexeme.ensures.proper, R.spaced);
+      tables = R.tables;
+    }
 
 pub slice_bounds-enter-end : goal.slice_bounds-enter-end
-slice_bounds-enter-end c =
-    sym c.loop-at.invariant.5
+slice_bounds-enter-end c = sym c.loop-at.invariant.5
 
 pub enter-requires : goal.enter-requires
 enter-requires c =
@@ -85,8 +86,7 @@ returns-in_default c =
     (barred c.enter.ensures c.in_default.is))
 
 pub loop-at-smaller : goal.loop-at-smaller
-loop-at-smaller c =
-    omega (arith, c.loop-at-test.true, c.lex-lexeme.ensures.ahead)
+loop-at-smaller c = omega (arith, c.loop-at-test.true, c.lex-lexeme.ensures.ahead)
 
 pub loop-at-preserved : goal.loop-at-preserved
 loop-at-preserved c =
@@ -107,8 +107,7 @@ loop-at-preserved c =
     )
 
 pub slice_bounds-finish-end : goal.slice_bounds-finish-end
-slice_bounds-finish-end c =
-    sym c.loop-at.invariant.5
+slice_bounds-finish-end c = sym c.loop-at.invariant.5
 
 pub finish-requires : goal.finish-requires
 finish-requires c =

@@ -5,8 +5,7 @@ use Rattle.running.proofs.Loop.{same-run, between_start, end_done, end_paused, s
 use Rattle.running.proofs.steps_from.Goals as goal
 
 pub begin-s-requires : goal.begin-s-requires
-begin-s-requires c =
-    c.requires.ready.fits
+begin-s-requires c = c.requires.ready.fits
 
 pub loop-s-init : goal.loop-s-init
 loop-s-init c =
@@ -23,28 +22,22 @@ advance-mark-requires c =
     record { good = inv.7.good; field_len_bound = (omega arith, omega arith); standing = inv.7.standing }
 
 pub shape_of-field-then-not-mark : goal.shape_of-field-then-not-mark
-shape_of-field-then-not-mark c =
-    c.advance-mark.auto.field ∙ c.loop-s.invariant.0 ∙ c.begin-s.auto.field
+shape_of-field-then-not-mark c = c.advance-mark.auto.field ∙ c.loop-s.invariant.0 ∙ c.begin-s.auto.field
 
 pub shape_of-scratch-then-not-mark : goal.shape_of-scratch-then-not-mark
-shape_of-scratch-then-not-mark c =
-    c.loop-s.invariant.1
+shape_of-scratch-then-not-mark c = c.loop-s.invariant.1
 
 pub shape_of-calls-then-not-mark : goal.shape_of-calls-then-not-mark
-shape_of-calls-then-not-mark c =
-    c.advance-mark.auto.calls ∙ c.loop-s.invariant.2
+shape_of-calls-then-not-mark c = c.advance-mark.auto.calls ∙ c.loop-s.invariant.2
 
 pub shape_of-binds-then-not-mark : goal.shape_of-binds-then-not-mark
-shape_of-binds-then-not-mark c =
-    c.loop-s.invariant.3
+shape_of-binds-then-not-mark c = c.loop-s.invariant.3
 
 pub shape_of-indexed-then-not-mark : goal.shape_of-indexed-then-not-mark
-shape_of-indexed-then-not-mark c =
-    c.loop-s.invariant.4
+shape_of-indexed-then-not-mark c = c.loop-s.invariant.4
 
 pub shape_of-spots-then-not-mark : goal.shape_of-spots-then-not-mark
-shape_of-spots-then-not-mark c =
-    c.loop-s.invariant.5
+shape_of-spots-then-not-mark c = c.loop-s.invariant.5
 
 pub returns-then-not-mark : goal.returns-then-not-mark
 returns-then-not-mark c =
@@ -52,28 +45,22 @@ returns-then-not-mark c =
     (end_done _ _ _ _ _ _ _ _ _ _ _ _ c.loop-s.invariant.7 _ _ _ _ _ _ _ _ _ c.advance-mark.ensures (not-true _ c.if-not-mark.true) c.halted.ensures)
 
 pub shape_of-field-then-steps-budget : goal.shape_of-field-then-steps-budget
-shape_of-field-then-steps-budget c =
-    c.advance-mark.auto.field ∙ c.loop-s.invariant.0 ∙ c.begin-s.auto.field
+shape_of-field-then-steps-budget c = c.advance-mark.auto.field ∙ c.loop-s.invariant.0 ∙ c.begin-s.auto.field
 
 pub shape_of-scratch-then-steps-budget : goal.shape_of-scratch-then-steps-budget
-shape_of-scratch-then-steps-budget c =
-    c.loop-s.invariant.1
+shape_of-scratch-then-steps-budget c = c.loop-s.invariant.1
 
 pub shape_of-calls-then-steps-budget : goal.shape_of-calls-then-steps-budget
-shape_of-calls-then-steps-budget c =
-    c.advance-mark.auto.calls ∙ c.loop-s.invariant.2
+shape_of-calls-then-steps-budget c = c.advance-mark.auto.calls ∙ c.loop-s.invariant.2
 
 pub shape_of-binds-then-steps-budget : goal.shape_of-binds-then-steps-budget
-shape_of-binds-then-steps-budget c =
-    c.loop-s.invariant.3
+shape_of-binds-then-steps-budget c = c.loop-s.invariant.3
 
 pub shape_of-indexed-then-steps-budget : goal.shape_of-indexed-then-steps-budget
-shape_of-indexed-then-steps-budget c =
-    c.loop-s.invariant.4
+shape_of-indexed-then-steps-budget c = c.loop-s.invariant.4
 
 pub shape_of-spots-then-steps-budget : goal.shape_of-spots-then-steps-budget
-shape_of-spots-then-steps-budget c =
-    c.loop-s.invariant.5
+shape_of-spots-then-steps-budget c = c.loop-s.invariant.5
 
 pub returns-then-steps-budget : goal.returns-then-steps-budget
 returns-then-steps-budget c =
@@ -102,7 +89,14 @@ step_at-done-requires c =
     let s = k.field_short in
     let t = k.scratch_long in
     let n = c.requires.field_len_bound in
-    let m = c.requires.binds_len in record { program_len_bound = (k.program_short, k.functions, k.program); cache = inv.6; good = g.0; placed = record { read = _; depth = _; under = g.3 }; field_len_bound = (omega arith, omega arith, omega arith, omega arith) }
+    let m = c.requires.binds_len in
+    record {
+      program_len_bound = (k.program_short, k.functions, k.program);
+      cache = inv.6;
+      good = g.0;
+      placed = record { read = _; depth = _; under = g.3 };
+      field_len_bound = (omega arith, omega arith, omega arith, omega arith);
+    }
 
 pub overflow_add-from : goal.overflow_add-from
 overflow_add-from c =
@@ -165,8 +159,7 @@ returns-then-done-ne0 c =
     c.halted-then-done-ne0.ensures)
 
 pub overflow_sub-s : goal.overflow_sub-s
-overflow_sub-s c =
-    c.gather-lead.ensures.2
+overflow_sub-s c = c.gather-lead.ensures.2
 
 pub overflow_add-steps : goal.overflow_add-steps
 overflow_add-steps c =

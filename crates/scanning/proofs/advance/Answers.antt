@@ -34,7 +34,12 @@ pass_call-s-requires c =
     let i = c.loop-mark.invariant in
     let l = i.long in
     let r = i.room in
-    let n = c.next_mark-mark.ensures in record { good = rw (n.0, n.1) i.good; field_len_bound = (omega arith, omega arith); reached = reached_open _ _ _ _ _ _ _ _ _ _ _ i _ _ _ _ _ _ _ n.0 n.1 n.2 n.3 (not-false _ c.if-not-mark.false) c.if-field-at-eq-RETURN.false }
+    let n = c.next_mark-mark.ensures in
+    record {
+      good = rw (n.0, n.1) i.good;
+      field_len_bound = (omega arith, omega arith);
+      reached = reached_open _ _ _ _ _ _ _ _ _ _ _ i _ _ _ _ _ _ _ n.0 n.1 n.2 n.3 (not-false _ c.if-not-mark.false) c.if-field-at-eq-RETURN.false;
+    }
 
 pub loop-mark-smaller : goal.loop-mark-smaller
 loop-mark-smaller c =

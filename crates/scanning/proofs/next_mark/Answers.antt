@@ -5,15 +5,16 @@ use Rattle.meaning.proofs.Truth.{never}
 use Rattle.scanning.proofs.next_mark.Goals as goal
 
 pub overflow_cast-result : goal.overflow_cast-result
-overflow_cast-result c =
-    omega (arith, c.type_inv.calls c.args.s.top)
+overflow_cast-result c = omega (arith, c.type_inv.calls c.args.s.top)
 
 pub returns-then-top-calls : goal.returns-then-top-calls
 returns-then-top-calls c =
     (refl, refl, refl, record { yes = λ _. from_notes _ _ _ _ _ _ _ c.requires.good c.requires.standing _ refl c.if-top-calls.true; no = λ z. never (cc) })
 
 pub next_bracket-at-requires : goal.next_bracket-at-requires
-next_bracket-at-requires c = record { at_in_bounds = (may_read _ _ _ _ _ _ _ c.requires.good c.requires.standing).0; field_len_bound = c.requires.field_len_bound.0; whole = (may_read _ _ _ _ _ _ _ c.requires.good c.requires.standing).1 }
+next_bracket-at-requires c =
+    let (within, whole) = may_read _ _ _ _ _ _ _ c.requires.good c.requires.standing in
+    record { at_in_bounds = within; field_len_bound = c.requires.field_len_bound.0; whole = whole }
 
 pub returns-then-at-field : goal.returns-then-at-field
 returns-then-at-field c = (

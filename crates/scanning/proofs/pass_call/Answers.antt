@@ -4,7 +4,11 @@ use mathlib.Core.Path.{refl}
 use Rattle.scanning.proofs.pass_call.Goals as goal
 
 pub move_down-requires : goal.move_down-requires
-move_down-requires c = let both = may_move _ _ _ _ _ _ _ _ c.requires.good c.requires.reached.0 c.requires.reached.1 in record { at_le_from = both.0; n_in_bounds = both.1 }
+move_down-requires c = let both = may_move _ _ _ _ _ _ _ _ c.requires.good c.requires.reached.0 c.requires.reached.1 in
+    record {
+      at_le_from = both.0;
+      n_in_bounds = both.1;
+    }
 
 pub overflow_cast-calls : goal.overflow_cast-calls
 overflow_cast-calls c =
@@ -12,8 +16,7 @@ overflow_cast-calls c =
     omega arith
 
 pub bounds-calls-depth : goal.bounds-calls-depth
-bounds-calls-depth c =
-    in_notes _ _ _ _ _ _ _ _ c.requires.good c.requires.reached.0 c.requires.reached.1
+bounds-calls-depth c = in_notes _ _ _ _ _ _ _ _ c.requires.good c.requires.reached.0 c.requires.reached.1
 
 pub returns : goal.returns
 returns c =

@@ -13,20 +13,16 @@ returns-then-slot-eq-SLOTS c =
     fixed_only c.requires _ c.if-slot-eq-SLOTS.true (rw (fixed_part c.requires c.if-slot-eq-SLOTS.true) at c.element_end.ensures)
 
 pub has-requires : goal.has-requires
-has-requires c =
-    slot_below c.requires c.if-slot-eq-SLOTS.false
+has-requires c = slot_below c.requires c.if-slot-eq-SLOTS.false
 
 pub offset_bounds-binds-slot : goal.offset_bounds-binds-slot
-offset_bounds-binds-slot c =
-    omega (arith, slot_below c.requires c.if-slot-eq-SLOTS.false, c.requires.ready.table.long)
+offset_bounds-binds-slot c = omega (arith, slot_below c.requires c.if-slot-eq-SLOTS.false, c.requires.ready.table.long)
 
 pub bounds-binds-slot : goal.bounds-binds-slot
-bounds-binds-slot c =
-    omega (arith, slot_below c.requires c.if-slot-eq-SLOTS.false, c.requires.ready.table.long)
+bounds-binds-slot c = omega (arith, slot_below c.requires c.if-slot-eq-SLOTS.false, c.requires.ready.table.long)
 
 pub overflow_add-to : goal.overflow_add-to
-overflow_add-to c =
-    omega (arith, slot_below c.requires c.if-slot-eq-SLOTS.false)
+overflow_add-to c = omega (arith, slot_below c.requires c.if-slot-eq-SLOTS.false)
 
 pub offset_bounds-binds-slot-then-has : goal.offset_bounds-binds-slot-then-has
 offset_bounds-binds-slot-then-has c =
@@ -49,16 +45,13 @@ returns-then-slot-lt-T_SLOTS c =
     settled_only c.requires _ c.if-slot-eq-SLOTS.false (sym c.has.ensures ∙ c.if-has.true) c.element_end-then-slot-lt-T_SLOTS.ensures
 
 pub slice_bounds-value_end-count : goal.slice_bounds-value_end-count
-slice_bounds-value_end-count c =
-    (held_there c.requires c.if-slot-eq-SLOTS.false (sym c.has.ensures ∙ c.if-has.true)).0
+slice_bounds-value_end-count c = (held_there c.requires c.if-slot-eq-SLOTS.false (sym c.has.ensures ∙ c.if-has.true)).0
 
 pub slice_bounds-value_end-start : goal.slice_bounds-value_end-start
-slice_bounds-value_end-start c =
-    (held_there c.requires c.if-slot-eq-SLOTS.false (sym c.has.ensures ∙ c.if-has.true)).0
+slice_bounds-value_end-start c = (held_there c.requires c.if-slot-eq-SLOTS.false (sym c.has.ensures ∙ c.if-has.true)).0
 
 pub slice_bounds-value_end-end : goal.slice_bounds-value_end-end
-slice_bounds-value_end-end c =
-    (held_there c.requires c.if-slot-eq-SLOTS.false (sym c.has.ensures ∙ c.if-has.true)).1
+slice_bounds-value_end-end c = (held_there c.requires c.if-slot-eq-SLOTS.false (sym c.has.ensures ∙ c.if-has.true)).1
 
 pub value_end-requires : goal.value_end-requires
 unfolding value_of
@@ -71,16 +64,14 @@ returns-then-has c =
     settled_only c.requires _ c.if-slot-eq-SLOTS.false (sym c.has.ensures ∙ c.if-has.true) c.value_end.ensures
 
 pub symbol_end-requires : goal.symbol_end-requires
-symbol_end-requires c =
-    single_level c.requires
+symbol_end-requires c = single_level c.requires
 
 pub returns-then-slot-lt-T_SLOTS-2 : goal.returns-then-slot-lt-T_SLOTS-2
 returns-then-slot-lt-T_SLOTS-2 c =
     symbol_only c.requires _ c.if-slot-lt-T_SLOTS-2.true (sym c.has.ensures ∙ c.if-has.false) c.symbol_end.ensures
 
 pub term_end-requires : goal.term_end-requires
-term_end-requires c =
-    single_level c.requires
+term_end-requires c = single_level c.requires
 
 pub returns : goal.returns
 returns c =

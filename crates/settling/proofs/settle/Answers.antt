@@ -11,12 +11,10 @@ pub returns-then-has : goal.returns-then-has
 returns-then-has c = as_before (λ l. sym c.has.ensures ∙ c.if-has.true) refl refl
 
 pub bounds-binds-slot : goal.bounds-binds-slot
-bounds-binds-slot c =
-    omega (arith, c.requires.long)
+bounds-binds-slot c = omega (arith, c.requires.long)
 
 pub bounds-binds-slot-2 : goal.bounds-binds-slot-2
-bounds-binds-slot-2 c =
-    simp length-set (omega (arith, c.requires.long))
+bounds-binds-slot-2 c = simp length-set (omega (arith, c.requires.long))
 
 pub returns : goal.returns
 unfolding noting

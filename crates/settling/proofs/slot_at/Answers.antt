@@ -6,8 +6,7 @@ pub returns-then-kind-lt-S_VARIABLE : goal.returns-then-kind-lt-S_VARIABLE
 returns-then-kind-lt-S_VARIABLE c = slot_fixed c.requires.0 (omega (arith, c.requires.1))
 
 pub bounds-left-at : goal.bounds-left-at
-bounds-left-at c =
-    (named_at c.requires.0 (omega (arith, c.requires.1))).long
+bounds-left-at c = (named_at c.requires.0 (omega (arith, c.requires.1))).long
 
 pub slot-requires : goal.slot-requires
 slot-requires c = (

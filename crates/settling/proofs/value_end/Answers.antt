@@ -4,8 +4,7 @@ use mathlib.Core.Path.{refl}
 use Rattle.settling.proofs.value_end.Goals as goal
 
 pub returns-then-arg-at : goal.returns-then-arg-at
-returns-then-arg-at c =
-    value_long _ _ _ c.requires.0 c.requires.1 c.if-arg-at.true
+returns-then-arg-at c = value_long _ _ _ c.requires.0 c.requires.1 c.if-arg-at.true
 
 pub returns-then-equal_values : goal.returns-then-equal_values
 returns-then-equal_values c =

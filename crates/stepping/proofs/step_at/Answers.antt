@@ -24,10 +24,22 @@ bounds-field-from-2 c =
     omega arith
 
 pub look_up-requires : goal.look_up-requires
-look_up-requires c = record { program = c.requires.program_len_bound.2; program_len_bound = c.requires.program_len_bound.0; cache = c.requires.cache }
+look_up-requires c =
+    record {
+      program = c.requires.program_len_bound.2;
+      program_len_bound = c.requires.program_len_bound.0;
+      cache = c.requires.cache;
+    }
 
 pub step_in-requires : goal.step_in-requires
-step_in-requires c = record { program_len_bound = (c.requires.program_len_bound.0, c.requires.program_len_bound.1); looked = rw c.in-At.is at c.look_up.ensures.looked; good = c.requires.good; placed = c.requires.placed; field_len_bound = c.requires.field_len_bound }
+step_in-requires c =
+    record {
+      program_len_bound = (c.requires.program_len_bound.0, c.requires.program_len_bound.1);
+      looked = rw c.in-At.is at c.look_up.ensures.looked;
+      good = c.requires.good;
+      placed = c.requires.placed;
+      field_len_bound = c.requires.field_len_bound;
+    }
 
 pub returns-in-At : goal.returns-in-At
 returns-in-At c = record { by_index = c.step_in.ensures; cache_2 = c.look_up.ensures.cache }

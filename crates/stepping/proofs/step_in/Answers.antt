@@ -5,17 +5,21 @@ use Rattle.stepping.proofs.Step.{place, sd, stays_2, stays_4, in_given, start_in
 use Rattle.stepping.proofs.step_in.Goals as goal
 
 pub slice_bounds-choose-count : goal.slice_bounds-choose-count
-slice_bounds-choose-count c =
-    (places c.requires.good c.requires.placed.under.term).1
+slice_bounds-choose-count c = (places c.requires.good c.requires.placed.under.term).1
 
 pub slice_bounds-choose-end : goal.slice_bounds-choose-end
-slice_bounds-choose-end c =
-    omega (arith, (places c.requires.good c.requires.placed.under.term).2)
+slice_bounds-choose-end c = omega (arith, (places c.requires.good c.requires.placed.under.term).2)
 
 pub choose-side-requires : goal.choose-side-requires
 choose-side-requires c =
     let k = place _ _ _ c.requires.looked in
-    record { at_in_bounds = (k.upto, c.requires.program_len_bound.0); whole = k.whole; body = k.body; balanced = arg_balanced c.requires.good c.requires.placed.under.term; binds_len = c.requires.field_len_bound.3 }
+    record {
+      at_in_bounds = (k.upto, c.requires.program_len_bound.0);
+      whole = k.whole;
+      body = k.body;
+      balanced = arg_balanced c.requires.good c.requires.placed.under.term;
+      binds_len = c.requires.field_len_bound.3;
+    }
 
 pub returns-then-not-side : goal.returns-then-not-side
 returns-then-not-side c =
@@ -38,7 +42,12 @@ measure-extent-requires c =
     let u = c.requires.placed.under in
     let h = c.requires.field_len_bound in
     let k = c.choose-side.auto.binds in
-    let n = h.3 in record { given = in_given g u l c.choose-side.ensures (not-false _ c.if-not-side.false) h.0; whole = (sd g u l c.choose-side.ensures (not-false _ c.if-not-side.false)).whole; binds_len = (omega arith, c.requires.program_len_bound.0) }
+    let n = h.3 in
+    record {
+      given = in_given g u l c.choose-side.ensures (not-false _ c.if-not-side.false) h.0;
+      whole = (sd g u l c.choose-side.ensures (not-false _ c.if-not-side.false)).whole;
+      binds_len = (omega arith, c.requires.program_len_bound.0);
+    }
 
 pub returns-then-not-extent : goal.returns-then-not-extent
 returns-then-not-extent c =
@@ -92,7 +101,13 @@ note-requires c =
     let q = c.choose-side.auto.binds in
     let n = h.3 in
     let i = u.inside in
-    let o = h.0 in record { given = in_given g u l c.choose-side.ensures (not-false _ c.if-not-side.false) h.0; whole = (sd g u l c.choose-side.ensures (not-false _ c.if-not-side.false)).whole; binds_len = (omega arith, c.requires.program_len_bound.0); to_bound = (omega arith, omega arith) }
+    let o = h.0 in
+    record {
+      given = in_given g u l c.choose-side.ensures (not-false _ c.if-not-side.false) h.0;
+      whole = (sd g u l c.choose-side.ensures (not-false _ c.if-not-side.false)).whole;
+      binds_len = (omega arith, c.requires.program_len_bound.0);
+      to_bound = (omega arith, omega arith);
+    }
 
 pub returns : goal.returns
 returns c =

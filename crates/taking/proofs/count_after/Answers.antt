@@ -6,8 +6,7 @@ pub returns-then-ends_side : goal.returns-then-ends_side
 returns-then-ends_side c = count_end _ _ _ (told c.ends_side.ensures c.if-ends_side.true)
 
 pub overflow_add-result : goal.overflow_add-result
-overflow_add-result c =
-    omega (arith, c.requires (told c.ends_side.ensures c.if-ends_side.false))
+overflow_add-result c = omega (arith, c.requires (told c.ends_side.ensures c.if-ends_side.false))
 
 pub returns-then-is_side : goal.returns-then-is_side
 returns-then-is_side c =

@@ -6,8 +6,7 @@ pub returns-then-not-between : goal.returns-then-not-between
 returns-then-not-between c = moved_out _ _ _ _ _ _ _ c.count_after.ensures (told c.between.ensures c.if-not-between.true)
 
 pub overflow_cast-number : goal.overflow_cast-number
-overflow_cast-number c =
-    omega (arith, (c.requires.1 c.if-new.true).2)
+overflow_cast-number c = omega (arith, (c.requires.1 c.if-new.true).2)
 
 pub slot-requires : goal.slot-requires
 slot-requires c =
@@ -15,8 +14,7 @@ slot-requires c =
     (n.0, n.1, n.2)
 
 pub overflow_add-state : goal.overflow_add-state
-overflow_add-state c =
-    omega (arith, c.requires.1 c.if-new.true)
+overflow_add-state c = omega (arith, c.requires.1 c.if-new.true)
 
 pub returns-then-new : goal.returns-then-new
 returns-then-new c =

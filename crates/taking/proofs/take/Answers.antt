@@ -4,8 +4,7 @@ use Rattle.taking.proofs.Stepping.{refused, can_open, can_move, accepted}
 use Rattle.taking.proofs.take.Goals as goal
 
 pub fault_of-fault-requires : goal.fault_of-fault-requires
-fault_of-fault-requires c =
-    (known_as c.args.e c.kind_of-kind.ensures, c.next_part-to.ensures, search rules)
+fault_of-fault-requires c = (known_as c.args.e c.kind_of-kind.ensures, c.next_part-to.ensures, search rules)
 
 pub returns-then-fault-ne0 : goal.returns-then-fault-ne0
 returns-then-fault-ne0 c =

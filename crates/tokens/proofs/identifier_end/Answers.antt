@@ -5,8 +5,7 @@ pub returns-then-s-at : goal.returns-then-s-at
 returns-then-s-at c = ends_out _ _ 0 c.if-s-at.true
 
 pub returns-then-class_of-ne-CAPITAL : goal.returns-then-class_of-ne-CAPITAL
-returns-then-class_of-ne-CAPITAL c =
-    ends_other _ _ _ c.if-s-at.false c.class_of.ensures c.if-class_of-ne-CAPITAL.true
+returns-then-class_of-ne-CAPITAL c = ends_other _ _ _ c.if-s-at.false c.class_of.ensures c.if-class_of-ne-CAPITAL.true
 
 pub returns-then-end-at : goal.returns-then-end-at
 returns-then-end-at c =

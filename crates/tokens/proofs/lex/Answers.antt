@@ -15,8 +15,7 @@ returns-in-1 c =
     c.spanning.ensures
 
 pub returns-in-2 : goal.returns-in-2
-returns-in-2 c =
-    tells_as (lex_slash c.args.s.now c.args.at _ c.class_of.ensures c.in-2.is) c.slashed.ensures
+returns-in-2 c = tells_as (lex_slash c.args.s.now c.args.at _ c.class_of.ensures c.in-2.is) c.slashed.ensures
 
 pub returns-in-3 : goal.returns-in-3
 returns-in-3 c =
@@ -24,8 +23,7 @@ returns-in-3 c =
     c.name.ensures
 
 pub returns-in-5 : goal.returns-in-5
-returns-in-5 c =
-    tells_as (lex_variable c.args.s.now c.args.at _ c.class_of.ensures c.in-5.is) c.variable.ensures
+returns-in-5 c = tells_as (lex_variable c.args.s.now c.args.at _ c.class_of.ensures c.in-5.is) c.variable.ensures
 
 pub returns-in-6 : goal.returns-in-6
 returns-in-6 c =
@@ -33,8 +31,7 @@ returns-in-6 c =
     c.number.ensures
 
 pub returns-in-8 : goal.returns-in-8
-returns-in-8 c =
-    tells_as (lex_string c.args.s.now c.args.at _ c.class_of.ensures c.in-8.is) c.string.ensures
+returns-in-8 c = tells_as (lex_string c.args.s.now c.args.at _ c.class_of.ensures c.in-8.is) c.string.ensures
 
 pub returns-in-9 : goal.returns-in-9
 unfolding lexeme_of token_of
@@ -43,12 +40,10 @@ returns-in-9 c =
     c.spanning-in-9.ensures
 
 pub returns-in-10 : goal.returns-in-10
-returns-in-10 c =
-    tells_as (lex-call c.args.s.now c.args.at _ c.class_of.ensures c.in-10.is) c.call.ensures
+returns-in-10 c = tells_as (lex-call c.args.s.now c.args.at _ c.class_of.ensures c.in-10.is) c.call.ensures
 
 pub returns-in-11 : goal.returns-in-11
-returns-in-11 c =
-    tells_as (lex_star c.args.s.now c.args.at _ c.class_of.ensures c.in-11.is) c.starred.ensures
+returns-in-11 c = tells_as (lex_star c.args.s.now c.args.at _ c.class_of.ensures c.in-11.is) c.starred.ensures
 
 pub returns-in-12 : goal.returns-in-12
 unfolding lexeme_of token_of

@@ -7,16 +7,13 @@ pub loop-i-init : goal.loop-i-init
 loop-i-init c = (refl, search rules)
 
 pub loop-i-preserved-then-held : goal.loop-i-preserved-then-held
-loop-i-preserved-then-held c =
-    turn_held _ _ _ _ _ _ c.loop-i.invariant c.loop-i-test.true c.if-b-q.true c.if-held.true
+loop-i-preserved-then-held c = turn_held _ _ _ _ _ _ c.loop-i.invariant c.loop-i-test.true c.if-b-q.true c.if-held.true
 
 pub loop-i-preserved-then-b-q : goal.loop-i-preserved-then-b-q
-loop-i-preserved-then-b-q c =
-    turn_free _ _ _ _ _ _ c.loop-i.invariant c.loop-i-test.true c.if-b-q.true c.if-held.false
+loop-i-preserved-then-b-q c = turn_free _ _ _ _ _ _ c.loop-i.invariant c.loop-i-test.true c.if-b-q.true c.if-held.false
 
 pub returns-then-held-2 : goal.returns-then-held-2
-returns-then-held-2 c =
-    end_held _ _ _ _ _ _ c.loop-i.invariant c.loop-i-test.true c.if-b-q.false c.if-held-2.true
+returns-then-held-2 c = end_held _ _ _ _ _ _ c.loop-i.invariant c.loop-i-test.true c.if-b-q.false c.if-held-2.true
 
 pub returns-then-class_of-eq-LINE_END : goal.returns-then-class_of-eq-LINE_END
 returns-then-class_of-eq-LINE_END c =

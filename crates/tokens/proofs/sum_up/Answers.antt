@@ -9,8 +9,7 @@ returns-then-class_of-ne-DIGIT c =
     stops _ _ _ _ c.loop-i.invariant c.loop-i-test.true _ c.class_of.ensures c.if-class_of-ne-DIGIT.true
 
 pub add_digit-v-requires : goal.add_digit-v-requires
-add_digit-v-requires c =
-    c.loop-i.invariant.low
+add_digit-v-requires c = c.loop-i.invariant.low
 
 pub loop-i-preserved : goal.loop-i-preserved
 loop-i-preserved c =

@@ -3,8 +3,7 @@ use Rattle.tokens.proofs.Lexing.{tells, tells_wrong, tells_as, indexed_out, inde
 use Rattle.tokens.proofs.variable.Goals as goal
 
 pub returns-then-s-at : goal.returns-then-s-at
-returns-then-s-at c =
-    tells_wrong c.spanning-malformed.ensures (indexed_out c.args.s.now c.args.at c.if-s-at.true)
+returns-then-s-at c = tells_wrong c.spanning-malformed.ensures (indexed_out c.args.s.now c.args.at c.if-s-at.true)
 
 pub returns-then-s-at-eq46 : goal.returns-then-s-at-eq46
 returns-then-s-at-eq46 c =

@@ -7,5 +7,4 @@ returns-then-m-v c =
     c.add.ensures
 
 pub returns-else-m-v : goal.returns-else-m-v
-returns-else-m-v c =
-    numbered_old c.requires.inside _ c.args.start c.args.size c.find-v.ensures c.if-m-v.false
+returns-else-m-v c = numbered_old c.requires.inside _ c.args.start c.args.size c.find-v.ensures c.if-m-v.false

@@ -23,5 +23,4 @@ loop-k-preserved c = (
 )
 
 pub returns : goal.returns
-returns c =
-    alike_none c.args.text.now _ _ _ _ _ (omega arith) c.if-n-m.false ∙ c.loop-k.invariant.0
+returns c = alike_none c.args.text.now _ _ _ _ _ (omega arith) c.if-n-m.false ∙ c.loop-k.invariant.0

@@ -10,8 +10,7 @@ pub returns-then-s-at : goal.returns-then-s-at
 returns-then-s-at c = over c.if-s-at.true
 
 pub returns-then-s-at-2 : goal.returns-then-s-at-2
-returns-then-s-at-2 c =
-    cut_at c.if-s-at.false c.length_of.ensures.0 c.if-s-at-2.true
+returns-then-s-at-2 c = cut_at c.if-s-at.false c.length_of.ensures.0 c.if-s-at-2.true
 
 pub number_at-requires : goal.number_at-requires
 unfolding body
@@ -73,13 +72,11 @@ returns-in-3 c =
 
 pub returns-in-4 : goal.returns-in-4
 unfolding body
-returns-in-4 c =
-    bare_at c.if-s-at.false c.length_of.ensures.0 c.if-s-at-2.false _ (sym c.in-4.is) (rw c.in-4.is) refl
+returns-in-4 c = bare_at c.if-s-at.false c.length_of.ensures.0 c.if-s-at-2.false _ (sym c.in-4.is) (rw c.in-4.is) refl
 
 pub returns-in-5 : goal.returns-in-5
 unfolding body
-returns-in-5 c =
-    bare_at c.if-s-at.false c.length_of.ensures.0 c.if-s-at-2.false _ (sym c.in-5.is) (rw c.in-5.is) refl
+returns-in-5 c = bare_at c.if-s-at.false c.length_of.ensures.0 c.if-s-at-2.false _ (sym c.in-5.is) (rw c.in-5.is) refl
 
 pub returns-in-6 : goal.returns-in-6
 unfolding body
@@ -89,8 +86,7 @@ returns-in-6 c =
 
 pub returns-in-7 : goal.returns-in-7
 unfolding body
-returns-in-7 c =
-    bare_at c.if-s-at.false c.length_of.ensures.0 c.if-s-at-2.false _ (sym c.in-7.is) (rw c.in-7.is) refl
+returns-in-7 c = bare_at c.if-s-at.false c.length_of.ensures.0 c.if-s-at-2.false _ (sym c.in-7.is) (rw c.in-7.is) refl
 
 pub returns-in-8 : goal.returns-in-8
 unfolding body

@@ -14,4 +14,8 @@ number_at-requires c =
 pub returns : goal.returns
 returns c =
     let w : c.length_of-length.result - 1 ≡ body c.args.kind = omega (arith, c.length_of-length.ensures.0) in
-    record { small = rw w at c.number_at.ensures.1; bytes = rw w at c.number_at.ensures.0; next_is = behind c.args.self.at _ c.length_of-length.ensures.0 }
+    record {
+      small = rw w at c.number_at.ensures.1;
+      bytes = rw w at c.number_at.ensures.0;
+      next_is = behind c.args.self.at _ c.length_of-length.ensures.0;
+    }
