@@ -27,7 +27,7 @@ use Rattle.taking.proofs.Stepping.{told_by, told_as}
 use Rattle.elements.specs.declared.Element.{Element as Read}
 use Rattle.elements.specs.declared.Element.TheVariants.{Equals, SentenceEnd}
 use Rattle.elements.specs.declared.Cursor.{Cursor}
-use Rattle.elements.specs.declared.Reading.TheVariants.{Got, Unknown, Cut}
+use Rattle.elements.specs.declared.Unread.TheVariants.{Unknown, Cut}
 use Rattle.elements.specs.Bytes.{kind_of, number_of, bytes_of}
 use Rattle.elements.specs.Reading.{ReadAt, got, unknown, short}
 use Rattle.elements.proofs.Places.{split_size, bare_at}
@@ -43,23 +43,23 @@ unfolding join
 one_long e = ap length (append-nil e)
 
 module _ {bs : List ℕ} {i : ℕ} {y : Read} {c : Cursor} where
-  pub got_number : ReadAt bs i (Got y c) → number_of y < 256 ^ body (kind_of y)
+  pub got_number : ReadAt bs i (Ok (y, c)) → number_of y < 256 ^ body (kind_of y)
   got_number (got n l s) = n
 
-  got_front : ReadAt bs i (Got y c) → elements (drop i bs) ≡ bytes_of y ∷ elements (drop c.at bs)
+  got_front : ReadAt bs i (Ok (y, c)) → elements (drop i bs) ≡ bytes_of y ∷ elements (drop c.at bs)
   got_front (got n l s) = s.front
 
-  pub got_fits : ReadAt bs i (Got y c) → c.at ≤ length bs
+  pub got_fits : ReadAt bs i (Ok (y, c)) → c.at ≤ length bs
   got_fits (got n l s) = s.fits
 
-  pub got_on : ReadAt bs i (Got y c) → i < c.at
+  pub got_on : ReadAt bs i (Ok (y, c)) → i < c.at
   got_on (got n l s) = l
 
-  got_long : ReadAt bs i (Got y c) → i + length (bytes_of y) ≡ c.at
+  got_long : ReadAt bs i (Ok (y, c)) → i + length (bytes_of y) ≡ c.at
   got_long (got n l s) = omega (arith, split_size s, one_long (bytes_of y))
 
 -- 0B and 0C are read as they are
-end_read : (bs : List ℕ) (i : ℕ) → i < length bs → (k : ℕ) → get_or bs i 0 ≡ k → ends_side k ≡ true → (u : Read) × ReadAt bs i (Got u (record { at = i + 1 })) × (kind_of u ≡ k)
+end_read : (bs : List ℕ) (i : ℕ) → i < length bs → (k : ℕ) → get_or bs i 0 ≡ k → ends_side k ≡ true → (u : Read) × ReadAt bs i (Ok (u, record { at = i + 1 })) × (kind_of u ≡ k)
 unfolding ends_side body
 end_read bs i h k e z =
     elim (see (eqb k 11)) [
@@ -67,7 +67,7 @@ end_read bs i h k e z =
       | is_false y ↦ let w = eqb-true k 12 (rw y at z) in (SentenceEnd, read_bare SentenceEnd (sym (e ∙ w)) (rw (e ∙ w)) refl, sym w)
     ]
   where
-    read_bare : (x : Read) → kind_of x ≡ get_or bs i 0 → body (get_or bs i 0) ≡ 0 → number_of x ≡ 0 → ReadAt bs i (Got x (record { at = i + 1 }))
+    read_bare : (x : Read) → kind_of x ≡ get_or bs i 0 → body (get_or bs i 0) ≡ 0 → number_of x ≡ 0 → ReadAt bs i (Ok (x, record { at = i + 1 }))
     read_bare x ek eb = bare_at h refl (omega arith) x ek eb
 
 -- ---- what a step does to the definition's state
@@ -147,18 +147,18 @@ module _ {found : Option ℕ} {bs st : List ℕ} {i : ℕ} {q : State} (R : Read
   unfolding first_bad
   unread h x es e f n = R.same ∙ rw (e, R.means.is, n, ne_eqb (suc f) 0 (λ z. omega arith))
 
-  pub unknown_bad : ReadAt bs i Unknown → found ≡ some i
+  pub unknown_bad : ReadAt bs i (Err Unknown) → found ≡ some i
   unfolding fault tests
   unknown_bad (unknown h z) = unread h _ _ (cut_at bs i h) 0 (sym (fails 1 _ z))
 
-  pub cut_bad : ReadAt bs i Cut → found ≡ some i
+  pub cut_bad : ReadAt bs i (Err Cut) → found ≡ some i
   unfolding fault tests
   cut_bad (short h z l) =
       let c = ne_eqb (length (element_at bs i)) (suc (body (get_or bs i 0))) (λ w. never (omega (arith, length-take (body (get_or bs i 0)) (drop (i + 1) bs), length-drop (i + 1) bs))) in
       unread h _ _ (cut_at bs i h) 1 (sym (passes 1 _ z (fails 2 _ c)))
 
   -- one element more
-  module _ {y : Read} {c : Cursor} (A : ReadAt bs i (Got y c)) {k v : ℕ} (I : Tells k v (bytes_of y)) where
+  module _ {y : Read} {c : Cursor} (A : ReadAt bs i (Ok (y, c))) {k v : ℕ} (I : Tells k v (bytes_of y)) where
     abbrev x : Element
     x = bytes_of y
 
@@ -221,7 +221,7 @@ module _ {found : Option ℕ} {bs st : List ℕ} {i : ℕ} {q : State} (R : Read
       rw m at (turned R A I S refl)
 
   -- an element that was taken, or passed
-  module _ {y : Read} {c : Cursor} (A : ReadAt bs i (Got y c)) {st' : List ℕ} where
+  module _ {y : Read} {c : Cursor} (A : ReadAt bs i (Ok (y, c))) {st' : List ℕ} where
     pub taken_bad : {e : Fault} → Steps q (kind_of y) (number_of y) st (Err e) st' → found ≡ some i
     taken_bad S = stopped R A (told_by y (got_number A)) S
 

@@ -8,7 +8,7 @@ ghost use Rattle.taking.specs.Standing.{Ready};
 ghost use Rattle.checking.specs.Answers.{check_of};
 ghost use Rattle.checking.specs.Passing.{HasRoom, Tried, Onward};
 
-use elements::{Cursor, Element, Reading};
+use elements::{Cursor, Element};
 use taking::State;
 
 // How far reading came, and where it stands there.
@@ -97,7 +97,7 @@ fn pass_side(bytes: &[u8], from: Cursor, start: State, stack: &mut [u8]) -> Reac
     let mut at = from;
     let mut state = start;
     while state.count < limit {
-        let Reading::Got(e, next) = at.read(bytes) else {
+        let Ok((e, next)) = at.read(bytes) else {
             return Reached { at, state };
         };
         let Some(passed) = pass_element(state, e, stack) else {
@@ -182,7 +182,7 @@ fn pass_program(program: &[u8], stack: &mut [u8]) -> Result<(), usize>
     };
     while at.at < program.len() {
         let bad = Err(at.at);
-        let Reading::Got(e, next) = at.read(program) else {
+        let Ok((e, next)) = at.read(program) else {
             return bad;
         };
         let Ok(taken) = taking::take(state, e, stack) else {

@@ -7,7 +7,7 @@ ghost use Rattle.elements.specs.Reading.{Characters};
 ghost use Rattle.checking_fields.specs.Answers.{check_of, field_check, scratch_after};
 ghost use Rattle.checking_fields.specs.Fields.{Closed, Turned};
 
-use elements::{Cursor, Element, Reading};
+use elements::{Cursor, Element};
 
 // Why a field is refused: the place of its first bad element; or that the scratch is shorter than the field.
 #[derive(Clone, Copy, Debug, PartialEq, Eq)]
@@ -70,7 +70,7 @@ fn pass_field(field: &[u8], stack: &mut [u8]) -> Result<(), FieldFault>
     let mut depth: usize = 0;
     while c.at < field.len() {
         let bad = Err(FieldFault::Bad(c.at));
-        let Reading::Got(x, next) = c.read(field) else {
+        let Ok((x, next)) = c.read(field) else {
             return bad;
         };
         let Some(now) = depth_behind(x, stack, depth) else {

@@ -7,7 +7,7 @@ use Rattle.std.specs.Cmp.Lexicographic.{pointwise}
 use Rattle.std.specs.Prelude.{nat_eq}
 use Rattle.std.proofs.lemmas.Slice.Eq.{bytes_eq-Decides}
 use Rattle.meaning.specs.Elements.{elements, join}
-use Rattle.meaning.proofs.Truth.{never, is_true, is_false, see}
+use Rattle.meaning.proofs.Truth.{never}
 use Rattle.meaning.proofs.Cutting.{join-cut}
 use Rattle.elements.specs.Bytes.{Told}
 

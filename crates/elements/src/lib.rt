@@ -94,37 +94,17 @@ pub fn number_of(x: Element) -> u32
     }
 }
 
-fn byte(s: &[u8], at: usize) -> u32
-    requires { at < length s.now }
-    ensures { (result ≡ get_or s.now at 0) × (result < 256) }
-{
-    s[at] as u32
-}
-
-// The number in two bytes, the low one first.
-fn word(s: &[u8], at: usize) -> u32
-    requires { at + 2 ≤ length s.now }
-    ensures { (digits 2 result ≡ take 2 (drop at s.now)) × (result < 65536) }
-{
-    byte(s, at) + byte(s, at + 1) * 256
-}
-
-// The number in a body, which has none, one, two or four bytes.
+// The number in a body, which has none, one, two or four bytes, the low one first.
 fn number_at(s: &[u8], at: usize, width: usize) -> u32
     requires { (at + width ≤ length s.now) × (width ≤ 4) × (width ≡ 3 → ⊥) }
     ensures { (digits width result ≡ take width (drop at s.now)) × (result < 256 ^ width) }
 {
-    if width == 0 {
-        return 0;
+    match width {
+        0 => 0,
+        1 => u32::from(s[at]),
+        2 => u32::from(u16::from_le_bytes([s[at], s[at + 1]])),
+        _ => u32::from_le_bytes([s[at], s[at + 1], s[at + 2], s[at + 3]]),
     }
-    if width == 1 {
-        return byte(s, at);
-    }
-    let low = word(s, at);
-    if width == 2 {
-        return low;
-    }
-    low + word(s, at + 2) * 65536
 }
 
 impl Cursor {
@@ -200,18 +180,10 @@ impl Cursor {
         requires { to ≤ length s.now }
         ensures { Characters s.now stop to self.at result.at }
     {
-        if to == 0 {
-            return self;
-        }
-        let last = to - 1;
+        let last = to.saturating_sub(1);
+        // a `for` would not say where it ended
         let mut at = self.at;
-        while at < last {
-            if s[at] != kinds::CHARACTER {
-                return Cursor { at };
-            }
-            if s[at + 1] as u16 == stop {
-                return Cursor { at };
-            }
+        while at < last && s[at] == kinds::CHARACTER && s[at + 1] as u16 != stop {
             at += 2;
         }
         Cursor { at }
@@ -236,13 +208,11 @@ pub fn depth_after(k: u8, depth: usize) -> usize
     requires { (1 ≤ depth) × (depth < 18446744073709551615) }
     ensures { result ≡ depth_after k depth }
 {
-    if k == kinds::OPEN {
-        return depth + 1;
+    match k {
+        kinds::OPEN => depth + 1,
+        kinds::CLOSE => depth - 1,
+        _ => depth,
     }
-    if k == kinds::CLOSE {
-        return depth - 1;
-    }
-    depth
 }
 
 // Past the bracket that closes the one that was opened just before a place.
@@ -257,7 +227,7 @@ fn shut_end(s: &[u8], at: usize) -> usize
         let i = c.at;
         // A closing bracket by itself: what stands behind it is read without waiting for a look-up.
         if s[i] == kinds::CLOSE {
-            depth = depth - 1;
+            depth -= 1;
             c = Cursor { at: i + 1 };
         } else {
             let passed = c.pass(s);

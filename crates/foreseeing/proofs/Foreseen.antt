@@ -3,7 +3,7 @@ use mathlib.Core.Path.{◌≡◌, refl, sym, ◌∙◌, ap}
 use mathlib.Core.Bool.{Bool, true, false}
 use mathlib.Core.Option.{Option, some}
 use mathlib.Core.List.{List, [], ◌∷◌, ◌++◌, append-nil}
-use Prim.Native.Nat.{ℕ, suc, ◌+◌, ◌-◌, ◌≤◌, ◌<◌}
+use Prim.Native.Nat.{ℕ, ◌+◌, ◌-◌, ◌≤◌, ◌<◌}
 use native.Mathlib.Omega.{arith}
 use native.Mathlib.Numerals.{add-one}
 use lib.ListN.{length, get_or, drop, length-append, length-drop, get_or-append}
@@ -15,7 +15,7 @@ use Rattle.meaning.specs.Matching.{Terms, stop as no-terms, symbol, bracket, s_v
 use Rattle.meaning.proofs.Truth.{never, is_true, is_false, see, is_none, is_some, see_o, same_eq, same_refl}
 use Rattle.meaning.proofs.Cutting.{join-cut, body_le, join-append}
 use Rattle.meaning.proofs.Searching.{Good, Sure, Each, none_left, one_more, known_each}
-use Rattle.kinds.specs.Slots.{slot_of, within, value_of}
+use Rattle.kinds.specs.Slots.{slot_of, value_of}
 use Rattle.std.specs.Prelude.{slice_get, Some, None, IsSome, MatchOption, unwrap_or}
 use Rattle.std.specs.Prelude as P
 use Rattle.std.proofs.Common.{Bor}
@@ -26,7 +26,7 @@ use Rattle.elements.proofs.Levels.{behind_terms, character_here, characters_leve
 use Rattle.foreseeing.specs.declared.Ahead.{Ahead}
 use Rattle.settling.specs.Values.{env_of, Variable, Table, FreshE, Slotted, of_variable, of_fixed, ItemAt, Meant, itself, valued, Open}
 use Rattle.foreseeing.specs.Foresight.{Barred, early, late, other_kind, other_second, other_third, MayEnd, may, may_not, Window, Usable, Sound, Standing, Through, Behind, Run, Skipped, at_once, term_more}
-use Rattle.settling.proofs.Slots.{slot_small, env_settled, bind_yes, bind_no, table_sure}
+use Rattle.settling.proofs.Slots.{env_settled, bind_yes, bind_no, table_sure}
 use Rattle.settling.proofs.Ends.{role_fixed, roles, s_role, t_role, e_role}
 
 -- WHAT BARS A PLACE

@@ -3,9 +3,9 @@ use mathlib.Core.Path.{◌≡◌, refl, sym, ◌∙◌, ap}
 use mathlib.Core.Bool.{true, false}
 use mathlib.Core.Option.{none}
 use mathlib.Core.List.{List, [], ◌∷◌, ◌++◌}
-use Prim.Native.Nat.{ℕ, ◌+◌, ◌-◌, ◌*◌, ◌/◌, ◌%◌, ◌≤◌, ◌<◌}
+use Prim.Native.Nat.{ℕ, ◌+◌, ◌-◌, ◌/◌, ◌%◌, ◌≤◌, ◌<◌}
 use native.Mathlib.Omega.{arith}
-use lib.ListN.{length, get_or, take, drop, length-append, length-take, length-drop, take-append-drop}
+use lib.ListN.{length, get_or, take, drop, length-append, length-drop, take-append-drop}
 use lib.Seq.{take_at, drop-drop}
 use lib.Dec.{eqb}
 use borrow.Author.Tests.{le-leb, eqb-true, eqb-false, ne_eqb}
@@ -20,8 +20,8 @@ use Rattle.kinds.specs.Slots.{slot_of, within, value_of}
 use Rattle.std.specs.Prelude.{Some, None, IfSome, MatchOption}
 use Rattle.std.proofs.Common.{Bor}
 use Rattle.std.specs.Prelude as P
-use Rattle.elements.specs.Reading.{Splits, Whole1, Proper, none, more, SymbolEnd, symbol_at, no_symbol, TermEnd, term_at, no_term}
-use Rattle.settling.specs.Values.{env_of, Variable, ValueEnd, stands_at, differs, FreshE, Table, Slotted, of_variable, of_fixed, Placed, Meant, itself, valued, Open, Single, Ways, one_way, no_ways, OnlyEnd}
+use Rattle.elements.specs.Reading.{Whole1, Proper, none, more, SymbolEnd, symbol_at, no_symbol, TermEnd, term_at, no_term}
+use Rattle.settling.specs.Values.{Variable, ValueEnd, stands_at, differs, Table, Slotted, of_variable, of_fixed, Placed, Meant, itself, valued, Open, Single, Ways, one_way, no_ways, OnlyEnd}
 use Rattle.settling.proofs.Sides.{proper_whole, bare, symbol_whole, one_element, l_head, h_symbol, h_open, h_close, h_variable}
 use Rattle.settling.proofs.Slots.{env_settled, env_open, env_fixed, slot_small}
 

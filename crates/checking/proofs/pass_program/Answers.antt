@@ -1,4 +1,3 @@
-use borrow.Enum.Refused.{opened}
 use mathlib.Core.Path.{refl, sym, ◌∙◌, ap}
 use mathlib.Core.Logic.{⊎_elim}
 use native.Mathlib.Omega.{arith}
@@ -16,7 +15,7 @@ shape_of-stack-in_default c = c.loop-at.invariant.1
 pub returns-in_default : goal.returns-in_default
 returns-in_default c =
     let i = c.loop-at.invariant.0 in
-    sym (ap check_of (⊎_elim (unknown_bad i) (cut_bad i) (unread c.read.ensures (opened c.in_default.in_default-own.keys2) c.loop-at-test.true)))
+    sym (ap check_of (⊎_elim (unknown_bad i) (cut_bad i) (unread (rw c.in_default.is at c.read.ensures) c.loop-at-test.true)))
 
 pub take-requires : goal.take-requires
 take-requires c = ready c.loop-at.invariant.0
@@ -26,28 +25,28 @@ shape_of-stack-in_default-take c = c.take.auto.stack ∙ c.loop-at.invariant.1
 
 pub returns-in_default-take : goal.returns-in_default-take
 returns-in_default-take c =
-    let got = rw c.in-Got.is at c.read.ensures in
+    let got = rw c.in-Ok.is at c.read.ensures in
     sym (ap check_of (taken_bad c.loop-at.invariant.0 got c.in_default-take.ensures))
 
 pub pass_sentences-passed-requires : goal.pass_sentences-passed-requires
 pass_sentences-passed-requires c =
-    let got = rw c.in-Got.is at c.read.ensures in
-    let T = taken_on c.loop-at.invariant.0 got c.in-Ok.ensures c.take.auto.stack in
+    let got = rw c.in-Ok.is at c.read.ensures in
+    let T = taken_on c.loop-at.invariant.0 got c.in-Ok-take.ensures c.take.auto.stack in
     (ready T, T.program, T.inside)
 
 pub loop-at-smaller : goal.loop-at-smaller
 loop-at-smaller c =
     let read = c.read in
-    let got = rw c.in-Got.is at read.ensures in
-    let T = taken_on c.loop-at.invariant.0 got c.in-Ok.ensures c.take.auto.stack in
+    let got = rw c.in-Ok.is at read.ensures in
+    let T = taken_on c.loop-at.invariant.0 got c.in-Ok-take.ensures c.take.auto.stack in
     omega (arith, got_on got, c.pass_sentences-passed.ensures.0, T.inside)
 
 pub loop-at-preserved : goal.loop-at-preserved
 loop-at-preserved c =
     let read = c.read in
-    let got = rw c.in-Got.is at read.ensures in
+    let got = rw c.in-Ok.is at read.ensures in
     let i = c.loop-at.invariant in
-    let T = taken_on i.0 got c.in-Ok.ensures c.take.auto.stack in
+    let T = taken_on i.0 got c.in-Ok-take.ensures c.take.auto.stack in
     (c.pass_sentences-passed.ensures.1 _ T, c.pass_sentences-passed.auto.stack ∙ c.take.auto.stack ∙ i.1)
 
 pub shape_of-stack-then-may_end : goal.shape_of-stack-then-may_end

@@ -31,13 +31,13 @@ returns-in_default-pass_element c =
 pub loop-state-smaller : goal.loop-state-smaller
 loop-state-smaller c =
     let got = c.read.ensures in
-    let e = c.in-Got.is in
+    let e = c.in-Ok.is in
     omega (arith, got_on (rw e at got), got_fits (rw e at got))
 
 pub loop-state-preserved : goal.loop-state-preserved
 loop-state-preserved c =
     let got = c.read.ensures in
-    let e = c.in-Got.is in
+    let e = c.in-Ok.is in
     let i = c.loop-state.invariant in (
       same_part c.in-Some.ensures ∙ i.0,
       omega (arith, i.1, got_on (rw e at got)),

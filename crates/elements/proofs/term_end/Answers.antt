@@ -1,4 +1,4 @@
-use mathlib.Core.Path.{◌≡◌, sym, ◌∙◌}
+use mathlib.Core.Path.{sym, ◌∙◌}
 use Rattle.elements.proofs.Levels.{shutting_here, bracketed}
 use Rattle.elements.proofs.Places.{behind, no_term_end, no_term_here, symbol_here}
 use Rattle.elements.specs.Reading.{term_at}

@@ -1,4 +1,4 @@
-use Rattle.foreseeing.specs.Foresight.{early, late, other_kind, other_second, other_third, may, may_not}
+use Rattle.foreseeing.specs.Foresight.{early, late, other_kind, other_second, may, may_not}
 use Rattle.foreseeing.proofs.Foreseen.{third_told}
 use native.Mathlib.Omega.{arith}
 use mathlib.Core.Path.{refl}

@@ -1,7 +1,6 @@
 use Rattle.settling.proofs.Next.{left_proper, named_at, item_fixed, item_named, item_bytes}
 use Rattle.elements.proofs.Places.{proper_inside, proper_splits}
 use native.Mathlib.Omega.{arith}
-use mathlib.Core.Path.{sym, ◌∙◌}
 use Rattle.settling.proofs.item_at.Goals.{then-passed-lt-S_VARIABLE, else-passed-lt-S_VARIABLE}
 use Rattle.settling.proofs.item_at.Goals as goal
 

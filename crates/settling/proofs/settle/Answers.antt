@@ -1,5 +1,4 @@
-use Rattle.settling.specs.Values.{as_before, noted, noting}
-use native.Mathlib.Omega.{arith}
+use Rattle.settling.specs.Values.{noted, noting}
 use mathlib.Core.Path.{refl, sym, ◌∙◌}
 use Rattle.settling.proofs.settle.Goals as goal
 

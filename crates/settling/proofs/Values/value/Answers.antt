@@ -1,6 +1,5 @@
 use Rattle.settling.proofs.Ends.{held_in}
 use Rattle.kinds.specs.Slots.{value_of}
-use native.Mathlib.Omega.{arith}
 use mathlib.Core.Path.{sym, ◌∙◌, refl}
 use Rattle.settling.proofs.Values.value.Goals as goal
 
