@@ -12,14 +12,15 @@ use Rattle.meaning.proofs.Cutting.{cut_at}
 use Rattle.kinds.specs.Stacks.{stack}
 use Rattle.kinds.proofs.Stacks.{stack-empty}
 use Rattle.elements.specs.declared.Element.{Element}
-use Rattle.elements.specs.declared.Reading.TheVariants.{Got, Unknown, Cut}
+use Rattle.elements.specs.declared.Unread.TheVariants.{Unknown, Cut}
+use Rattle.std.specs.Prelude.{Ok, Err}
 use Rattle.elements.specs.declared.Cursor.{Cursor}
 use Rattle.elements.specs.Reading.{Splits, ReadAt, unknown, short, got, Characters, no_more, one_more}
 use Rattle.elements.proofs.Places.{split_size}
 use Rattle.elements.proofs.Digits.{one_byte}
 use Rattle.checking_fields.proofs.Turns.{character_good}
 use Rattle.checking_fields.specs.Fields.{within, bad_from, Turned, good, bad}
-use Rattle.checking_fields.specs.declared.Behind.TheVariants.{Depth, Fault}
+use Rattle.std.specs.Prelude.{Some, None}
 
 -- a field has no limits, so the elements before do not count
 uncounted : (n m i : ℕ) (opens : List ℕ) (es : List Bytes) → first_bad (at field opens n []) i es ≡ first_bad (at field opens m []) i es
@@ -37,7 +38,7 @@ pub begun : (f st : List ℕ) → InField f st 0 0
 unfolding bad_field bad_from stack
 begun f st = record { inside = omega arith; deep = omega arith; same = refl }
 
-pub got_on : {f : List ℕ} {i : ℕ} {x : Element} {c : Cursor} → ReadAt f i (Got x c) → (i < c.at) × (c.at ≤ length f)
+pub got_on : {f : List ℕ} {i : ℕ} {x : Element} {c : Cursor} → ReadAt f i (Ok (x, c)) → (i < c.at) × (c.at ≤ length f)
 got_on (got n l p) = (l, p.fits)
 
 module _ {f st : List ℕ} {i d : ℕ} (F : InField f st i d) where
@@ -51,19 +52,19 @@ module _ {f st : List ℕ} {i d : ℕ} (F : InField f st i d) where
     unfolding bad_from first_bad state_after part_after variables_after
     onward z = rw (p.front, z, next_is) (uncounted (count_after field (kind e) 0) 0 j (opens_after (kind e) (stack d st)) (elements (drop j f)))
 
-  pub turned : {x : Element} {c : Cursor} {e : ℕ} {new : List ℕ} → ReadAt f i (Got x c) → Turned x st d (Depth e) new → InField f new c.at e
+  pub turned : {x : Element} {c : Cursor} {e : ℕ} {new : List ℕ} → ReadAt f i (Ok (x, c)) → Turned x st d (Some e) new → InField f new c.at e
   turned (got n l p) (good z o m) = record { inside = p.fits; deep = omega (arith, F.deep); same = rw o (F.same ∙ onward p z) }
 
   -- at one that is bad
-  pub bad_turn : {x : Element} {c : Cursor} {new : List ℕ} → ReadAt f i (Got x c) → Turned x st d Fault new → bad_field f ≡ some i
+  pub bad_turn : {x : Element} {c : Cursor} {new : List ℕ} → ReadAt f i (Ok (x, c)) → Turned x st d None new → bad_field f ≡ some i
   unfolding bad_from first_bad
   bad_turn (got n l p) (bad z) = F.same ∙ rw (p.front, ne_eqb _ 0 z)
 
-  pub bad_kind : ReadAt f i Unknown → bad_field f ≡ some i
+  pub bad_kind : ReadAt f i (Err Unknown) → bad_field f ≡ some i
   unfolding bad_from first_bad fault tests first_failing
   bad_kind (unknown h z) = F.same ∙ rw (cut_at f i h, z)
 
-  pub bad_cut : ReadAt f i Cut → bad_field f ≡ some i
+  pub bad_cut : ReadAt f i (Err Cut) → bad_field f ≡ some i
   unfolding bad_from first_bad fault tests first_failing
   bad_cut (short h z l) =
       let k = get_or f i 0 in

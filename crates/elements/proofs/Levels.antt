@@ -14,7 +14,7 @@ use Rattle.meaning.specs.Matching.{Terms, stop, symbol, bracket}
 use Rattle.meaning.proofs.Truth.{never, is_true, is_false, see}
 use Rattle.meaning.proofs.Searching.{Closing, closing_symbol, closing_open, closing_open₀, closing_close}
 use Rattle.elements.specs.Reading.{Splits, Balanced, ended, symbols, opening, closing, depth_after, Characters, no_more, one_more, Level, TermEnd, term_at, Shutting, Shut}
-use Rattle.elements.specs.declared.Found.TheVariants.{At}
+use Rattle.std.specs.Prelude.{Some}
 use Rattle.elements.proofs.Places.{here, bare, cut_here, head_here, head_symbol, head_open, head_close, symbol_kind, symbol_here, none_left, splits_here, open_here, open_splits, split_join}
 
 pub closes : {d : ℕ} {es : List (List ℕ)} → Balanced d es → (n : ℕ) × Closing d n es
@@ -269,5 +269,5 @@ seek_shut {s} {at} {i} {j} k h e =
 pub shutting_here : (s : List ℕ) (at : ℕ) → at < length s → (b : Level s at) → get_or s at 0 ≡ 4 → Shutting s (at + 1)
 shutting_here s at h b e = record { depth = b.depth; behind = omega arith; fits = omega arith; balanced = open_here s at h b.balanced e }
 
-pub bracketed : (s : List ℕ) (at t : ℕ) → at < length s → (b : Level s at) → get_or s at 0 ≡ 4 → Shut s (at + 1) t → TermEnd s at (At t)
+pub bracketed : (s : List ℕ) (at t : ℕ) → at < length s → (b : Level s at) → get_or s at 0 ≡ 4 → Shut s (at + 1) t → TermEnd s at (Some t)
 bracketed s at t h b e k = term_at (bracket k.inside stop refl) (split_join (open_splits s at h b.balanced e) k.split)

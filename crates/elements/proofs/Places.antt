@@ -7,8 +7,6 @@ use Prim.Native.Nat.{ℕ, zero, suc, ◌+◌, ◌-◌, ◌^◌, ◌≤◌, ◌<�
 use native.Mathlib.Omega.{arith}
 use lib.ListN.{length, get_or, take, drop, length-append, length-take, length-drop, drop_of_length-le}
 use lib.Dec.{T, leb}
-use types.Run.{OneOf, miss}
-use denote.Enum.Declared.{tag_of}
 use borrow.Author.Tests.{leb-true, leb-false}
 use Rattle.meaning.specs.Elements.{kind, body, cut, elements, join, is_symbol}
 use Rattle.meaning.specs.Goodness.{span}
@@ -18,10 +16,9 @@ use Rattle.meaning.proofs.Cutting.{cut_at as cut-there, join-cut, join-append}
 use Rattle.kinds.proofs.Bodies.{body-known}
 use Rattle.elements.specs.declared.Element.{Element}
 use Rattle.elements.specs.declared.Element.TheVariants.{Character, Name, Macrodigit, Open, Close, Call, Return, SVariable, TVariable, EVariable, Equals, SentenceEnd, Header, FunctionEnd, ProgramEnd}
-use Rattle.elements.specs.declared.Reading.{Reading}
-use Rattle.elements.specs.declared.Reading.TheVariants.{Got, Unknown, Cut, End}
-use Rattle.elements.specs.contracts.Reading.{the_type}
-use Rattle.elements.specs.declared.Found.TheVariants.{Nothing}
+use Rattle.std.specs.Prelude.{Ok, Err, None}
+use Rattle.elements.specs.declared.Unread.{Unread}
+use Rattle.elements.specs.declared.Unread.TheVariants.{Unknown, Cut}
 use Rattle.elements.specs.Bytes.{kind_of, number_of, digits, bytes_of}
 use Rattle.elements.specs.Reading.{Splits, ReadAt, over, unknown, short, got, Balanced, symbols, opening, closing, SymbolEnd, no_symbol, TermEnd, no_term, ProperAt}
 
@@ -72,7 +69,7 @@ module _ (s : List ℕ) (at : ℕ) (h : at < length s) where
 
   -- what a cursor reads
   pub read_got : (w n : ℕ) (x : Element) → w ≡ body (get_or s at 0) → w < length s - at → digits w n ≡ take w (drop (at + 1) s) → n < 256 ^ w
-      → kind_of x ≡ get_or s at 0 → number_of x ≡ n → ReadAt s at (Got x (record { at = at + 1 + w }))
+      → kind_of x ≡ get_or s at 0 → number_of x ≡ n → ReadAt s at (Ok (x, record { at = at + 1 + w }))
   unfolding here
   read_got w n x ew l d b ek en =
       let e : bytes_of x ≡ here = rw (ek, en, ← ew, d) in
@@ -109,15 +106,15 @@ pub body_fits : {n at l b : ℕ} (w : ℕ) → b ≡ w → n ≡ 1 + b → n ≤
 body_fits w e q f h = omega arith
 
 module _ {s : List ℕ} {at n : ℕ} (h : at < length s) (q : n ≡ 1 + body (get_or s at 0)) where
-  pub cut_at : length s - at < n → ReadAt s at Cut
+  pub cut_at : length s - at < n → ReadAt s at (Err Cut)
   cut_at c = short h (body-known _ (omega arith)) (omega arith)
 
   module _ (f : n ≤ length s - at) where
     pub got_at : (w : ℕ) (x : Element) → kind_of x ≡ get_or s at 0 → body (get_or s at 0) ≡ w → digits w (number_of x) ≡ take w (drop (at + 1) s)
-        → number_of x < 256 ^ w → ReadAt s at (Got x (record { at = at + 1 + w }))
+        → number_of x < 256 ^ w → ReadAt s at (Ok (x, record { at = at + 1 + w }))
     got_at w x ek ew d l = read_got s at h w (number_of x) x (sym ew) (omega arith) d l ek refl
 
-    pub bare_at : (x : Element) → kind_of x ≡ get_or s at 0 → body (get_or s at 0) ≡ 0 → number_of x ≡ 0 → ReadAt s at (Got x (record { at = at + 1 }))
+    pub bare_at : (x : Element) → kind_of x ≡ get_or s at 0 → body (get_or s at 0) ≡ 0 → number_of x ≡ 0 → ReadAt s at (Ok (x, record { at = at + 1 }))
     unfolding digits
     bare_at x ek ew z = let e : at + 1 + 0 ≡ at + 1 = omega arith in rw e at (got_at 0 x ek ew refl (rw z (omega arith)))
 
@@ -125,12 +122,11 @@ module _ {s : List ℕ} {at n : ℕ} (h : at < length s) (q : n ≡ 1 + body (ge
 pub no_kind : (k : ℕ) → NoneOf k 15 → span 1 15 k ≡ false
 no_kind k n = elim (see (span 1 15 k)) [ is_true z ↦ absurd (let w = span_le 1 15 k z in omega (arith, w.1, beyond 15 k n w.0)) | is_false z ↦ z ]
 
--- what is read within the bytes and is no element
-pub unread : {s : List ℕ} {at : ℕ} {r : Reading} → ReadAt s at r → OneOf (1 ∷ 2 ∷ 3 ∷ []) (tag_of the_type r) → at < length s → ReadAt s at Unknown ⊎ ReadAt s at Cut
-unread (over l) k h = never (omega arith)
-unread (unknown i z) k h = inl (unknown i z)
-unread (short i z l) k h = inr (short i z l)
-unread (got n l p) k h = absurd (miss (1 ∷ 2 ∷ 3 ∷ []) 0 tt k)
+-- what is not read within the bytes
+pub unread : {s : List ℕ} {at : ℕ} {r : Unread} → ReadAt s at (Err r) → at < length s → ReadAt s at (Err Unknown) ⊎ ReadAt s at (Err Cut)
+unread (over l) h = never (omega arith)
+unread (unknown i z) h = inl (unknown i z)
+unread (short i z l) h = inr (short i z l)
 
 -- where a whole element stands
 module _ {s : List ℕ} {at : ℕ} (p : ProperAt s at) where
@@ -146,23 +142,6 @@ module _ {s : List ℕ} {at : ℕ} (p : ProperAt s at) where
       let h = proper_inside in
       let i : here s at h ≡ p.e = cc (cut_here s at h, p.is) in
       rw i at (splits_here s at h (rw i (p.whole.long ∙ ap (λ (x : List ℕ). suc (body (kind x))) (sym i) ∙ rw (kind_here s at h))))
-
-  -- it is read
-  pub not_over : ReadAt s at End → ⊥
-  not_over (over l) = let h = proper_inside in omega arith
-
-  pub not_unknown : ReadAt s at Unknown → ⊥
-  not_unknown (unknown h z) =
-      let i : here s at h ≡ p.e = cc (cut_here s at h, p.is) in
-      let k : kind p.e ≡ get_or s at 0 = sym (ap kind i) ∙ kind_here s at h in
-      let y : span 1 15 (get_or s at 0) ≡ true = rw k at p.whole.known in
-      never (cc)
-
-  pub not-cut : ReadAt s at Cut → ⊥
-  not-cut (short h z l) = let r = proper_splits.fits in omega arith
-
-pub proper_too : {a b : List ℕ} {at : ℕ} → ProperAt a at → elements (drop at a) ≡ elements (drop at b) → ProperAt b at
-proper_too p q = record { e = p.e; es = p.es; is = sym q ∙ p.is; whole = p.whole }
 
 -- SYMBOLS AND TERMS, where an argument is balanced
 
@@ -194,7 +173,7 @@ module _ (s : List ℕ) (at : ℕ) (h : at < length s) where
         | head_close q e c ↦ absurd (n5 (ap kind e))
       ]
 
-  pub no_symbol_here : is_symbol (get_or s at 0 ∷ []) ≡ false → SymbolEnd s at Nothing
+  pub no_symbol_here : is_symbol (get_or s at 0 ∷ []) ≡ false → SymbolEnd s at None
   unfolding is_symbol
   no_symbol_here z = no_symbol (λ e es t q. other e t (cc (cut_here s at h)))
     where
@@ -224,17 +203,17 @@ module _ (s : List ℕ) (at : ℕ) (h : at < length s) where
         | head_close q f c ↦ never (let w : get_or s at 0 ≡ 5 = sym (kind_here s at h) ∙ ap kind f in omega arith)
       ]
 
-  pub no_term_here : get_or s at 0 ≡ 5 → TermEnd s at Nothing
+  pub no_term_here : get_or s at 0 ≡ 5 → TermEnd s at None
   no_term_here e = no_term (λ v es t q. starts v es t (sym (cut_here s at h) ∙ q))
     where
       starts : (v es : List (List ℕ)) → Terms 1 v → here s at h ∷ elements (drop (at + 1 + body (get_or s at 0)) s) ≡ v ++ es → ⊥
       starts v es (symbol {e = x} t r) q = never (let i : here s at h ≡ x = cc in let w = symbol_kind x t in let z : kind x ≡ get_or s at 0 = sym (ap kind i) ∙ kind_here s at h in omega arith)
       starts v es (bracket r r' q') q = never (let i : here s at h ≡ 4 ∷ [] = cc in let z : get_or s at 0 ≡ 4 = sym (kind_here s at h) ∙ ap kind i in omega arith)
 
-pub no_symbol_end : (s : List ℕ) (at : ℕ) → length s ≤ at → SymbolEnd s at Nothing
+pub no_symbol_end : (s : List ℕ) (at : ℕ) → length s ≤ at → SymbolEnd s at None
 no_symbol_end s at h = no_symbol (λ e es t q. never (cc (none_left s at h)))
 
-pub no_term_end : (s : List ℕ) (at : ℕ) → length s ≤ at → TermEnd s at Nothing
+pub no_term_end : (s : List ℕ) (at : ℕ) → length s ≤ at → TermEnd s at None
 no_term_end s at h = no_term (λ v es t q. starts v es t (sym (none_left s at h) ∙ q))
   where
     starts : (v es : List (List ℕ)) → Terms 1 v → [] ≡ v ++ es → ⊥

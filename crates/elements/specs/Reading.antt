@@ -1,14 +1,12 @@
 -- What stands at a place of some bytes.
-use Rattle.std.specs.Prelude.{◌≡◌, true, false, cond, List, [], ◌∷◌, ◌++◌, ℕ, suc, ◌+◌, ◌-◌, ◌^◌, ◌≤◌, ◌<◌, length, get_or, take, drop, T, eqb}
+use Rattle.std.specs.Prelude.{◌≡◌, true, false, cond, List, [], ◌∷◌, ◌++◌, ℕ, suc, ◌+◌, ◌-◌, ◌^◌, ◌≤◌, ◌<◌, length, get_or, take, drop, T, eqb, Option, Some, None, Result, Ok, Err}
 use Rattle.meaning.specs.Elements.{kind, body, elements, is_symbol}
 use Rattle.meaning.specs.Goodness.{span}
 use Rattle.meaning.specs.Matching.{Terms}
 use Rattle.elements.specs.declared.Element.{Element}
 use Rattle.elements.specs.declared.Cursor.{Cursor}
-use Rattle.elements.specs.declared.Reading.{Reading}
-use Rattle.elements.specs.declared.Reading.TheVariants.{Got, Unknown, Cut, End}
-use Rattle.elements.specs.declared.Found.{Found}
-use Rattle.elements.specs.declared.Found.TheVariants.{At, Nothing}
+use Rattle.elements.specs.declared.Unread.{Unread}
+use Rattle.elements.specs.declared.Unread.TheVariants.{Unknown, Cut, End}
 use Rattle.elements.specs.Bytes.{kind_of, number_of, digits, bytes_of}
 
 -- from `at` to `next` stand the elements v
@@ -23,11 +21,11 @@ pub record Whole1 (e : List ℕ) : Type 0 where
   pub long : length e ≡ suc (body (kind e))
 
 -- what a cursor at a place reads
-pub data ReadAt (s : List ℕ) (at : ℕ) : Reading → Type 0 where
-  over : length s ≤ at → ReadAt s at End
-  unknown : at < length s → span 1 15 (get_or s at 0) ≡ false → ReadAt s at Unknown
-  short : at < length s → span 1 15 (get_or s at 0) ≡ true → length s - at ≤ body (get_or s at 0) → ReadAt s at Cut
-  got : {x : Element} {c : Cursor} → number_of x < 256 ^ body (kind_of x) → at < c.at → Splits s at (bytes_of x ∷ []) c.at → ReadAt s at (Got x c)
+pub data ReadAt (s : List ℕ) (at : ℕ) : Result (Element × Cursor) Unread → Type 0 where
+  over : length s ≤ at → ReadAt s at (Err End)
+  unknown : at < length s → span 1 15 (get_or s at 0) ≡ false → ReadAt s at (Err Unknown)
+  short : at < length s → span 1 15 (get_or s at 0) ≡ true → length s - at ≤ body (get_or s at 0) → ReadAt s at (Err Cut)
+  got : {x : Element} {c : Cursor} → number_of x < 256 ^ body (kind_of x) → at < c.at → Splits s at (bytes_of x ∷ []) c.at → ReadAt s at (Ok (x, c))
 
 -- an element of kind k read: the number in its body, and the place behind it
 pub record NumberedAt (s : List ℕ) (at k n next : ℕ) : Type 0 where
@@ -58,13 +56,13 @@ pub record Level (s : List ℕ) (at : ℕ) : Type 0 where
   pub fits : at ≤ length s
   pub balanced : Balanced depth (elements (drop at s))
 
-pub data SymbolEnd (s : List ℕ) (at : ℕ) : Found → Type 0 where
-  symbol_at : {e : List ℕ} {t : ℕ} → T (is_symbol e) → Splits s at (e ∷ []) t → SymbolEnd s at (At t)
-  no_symbol : ((e : List ℕ) (es : List (List ℕ)) → T (is_symbol e) → elements (drop at s) ≡ e ∷ es → ⊥) → SymbolEnd s at Nothing
+pub data SymbolEnd (s : List ℕ) (at : ℕ) : Option ℕ → Type 0 where
+  symbol_at : {e : List ℕ} {t : ℕ} → T (is_symbol e) → Splits s at (e ∷ []) t → SymbolEnd s at (Some t)
+  no_symbol : ((e : List ℕ) (es : List (List ℕ)) → T (is_symbol e) → elements (drop at s) ≡ e ∷ es → ⊥) → SymbolEnd s at None
 
-pub data TermEnd (s : List ℕ) (at : ℕ) : Found → Type 0 where
-  term_at : {v : List (List ℕ)} {t : ℕ} → Terms 1 v → Splits s at v t → TermEnd s at (At t)
-  no_term : ((v es : List (List ℕ)) → Terms 1 v → elements (drop at s) ≡ v ++ es → ⊥) → TermEnd s at Nothing
+pub data TermEnd (s : List ℕ) (at : ℕ) : Option ℕ → Type 0 where
+  term_at : {v : List (List ℕ)} {t : ℕ} → Terms 1 v → Splits s at v t → TermEnd s at (Some t)
+  no_term : ((v es : List (List ℕ)) → Terms 1 v → elements (drop at s) ≡ v ++ es → ⊥) → TermEnd s at None
 
 -- j brackets are open, then an element of kind k comes
 unfoldable pub depth_after : ℕ → ℕ → ℕ
@@ -94,15 +92,3 @@ pub record ProperAt (s : List ℕ) (at : ℕ) : Type 0 where
   pub es : List (List ℕ)
   pub is : elements (drop at s) ≡ e ∷ es
   pub whole : Whole1 e
-
--- the element at a place, if both have it there
-pub data Shared (a b : List ℕ) (at : ℕ) : Found → Type 0 where
-  both : {e : List ℕ} {t : ℕ} → at < t → Splits a at (e ∷ []) t → Splits b at (e ∷ []) t → Shared a b at (At t)
-  differ : (elements (drop at a) ≡ elements (drop at b) → ⊥) → Shared a b at Nothing
-
--- two values of one length are the same up to `at`, and whole from there on
-pub record Comparing (a b : List ℕ) (at : ℕ) : Type 0 where
-  pub fits : at ≤ length a
-  pub long : length a ≡ length b
-  pub proper : Proper (elements (drop at a))
-  pub same : take at a ≡ take at b

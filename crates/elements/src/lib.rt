@@ -3,11 +3,11 @@
 
 ghost use Rattle.std.specs.Prelude.{◌≡◌, ◌+◌, ◌-◌, ◌^◌, ◌<◌, ◌≤◌, length, get_or, take, drop};
 ghost use Rattle.meaning.specs.Elements.{body, elements};
-ghost use Rattle.elements.specs.Bytes.{kind_of, number_of, digits, bytes_of, Told};
-ghost use Rattle.elements.specs.Reading.{ReadAt, Proper, NumberedAt, PassedOver, Level, depth_after, Characters, Shutting, Shut, SymbolEnd, TermEnd, ProperAt, Shared, Comparing};
+ghost use Rattle.elements.specs.Bytes.{kind_of, number_of, digits, Told};
+ghost use Rattle.elements.specs.Reading.{ReadAt, NumberedAt, PassedOver, Level, depth_after, Characters, Shutting, Shut, SymbolEnd, TermEnd};
 
 // An element: fifteen kinds, with the number in the body where there is one.
-#[derive(Clone, Copy)]
+#[derive(Clone, Copy, PartialEq, Eq)]
 pub enum Element {
     Character(u32),
     Name(u32),
@@ -27,7 +27,7 @@ pub enum Element {
 }
 
 // A place between elements.
-#[derive(Clone, Copy)]
+#[derive(Clone, Copy, PartialEq, Eq)]
 pub struct Cursor {
     pub at: usize,
 }
@@ -46,19 +46,12 @@ pub struct Numbered {
     pub next: Cursor,
 }
 
-// What a cursor reads: an element and the moved cursor; a kind that is unknown; a body that is cut short; or that nothing is left.
-#[derive(Clone, Copy)]
-pub enum Reading {
-    Got(Element, Cursor),
+// Why a cursor reads no element: its kind is unknown, its body is cut short, or nothing is left.
+#[derive(Clone, Copy, PartialEq, Eq)]
+pub enum Unread {
     Unknown,
     Cut,
     End,
-}
-
-#[derive(Clone, Copy)]
-pub enum Found {
-    At(usize),
-    Nothing,
 }
 
 // The kind's byte.
@@ -89,69 +82,43 @@ pub fn number_of(x: Element) -> u32
     ensures { result ≡ number_of x }
 {
     match x {
-        Element::Character(n) => n,
-        Element::Name(n) => n,
-        Element::Macrodigit(n) => n,
-        Element::Open => 0,
-        Element::Close => 0,
-        Element::Call(n) => n,
-        Element::Return => 0,
-        Element::SVariable(n) => n,
-        Element::TVariable(n) => n,
-        Element::EVariable(n) => n,
-        Element::Equals => 0,
-        Element::SentenceEnd => 0,
-        Element::Header(n) => n,
-        Element::FunctionEnd => 0,
-        Element::ProgramEnd => 0,
+        Element::Character(n)
+        | Element::Name(n)
+        | Element::Macrodigit(n)
+        | Element::Call(n)
+        | Element::SVariable(n)
+        | Element::TVariable(n)
+        | Element::EVariable(n)
+        | Element::Header(n) => n,
+        _ => 0,
     }
 }
 
-fn byte(s: &[u8], at: usize) -> u32
-    requires { at < length s.now }
-    ensures { (result ≡ get_or s.now at 0) × (result < 256) }
-{
-    s[at] as u32
-}
-
-// The number in two bytes, the low one first.
-fn word(s: &[u8], at: usize) -> u32
-    requires { at + 2 ≤ length s.now }
-    ensures { (digits 2 result ≡ take 2 (drop at s.now)) × (result < 65536) }
-{
-    byte(s, at) + byte(s, at + 1) * 256
-}
-
-// The number in a body, which has none, one, two or four bytes.
+// The number in a body, which has none, one, two or four bytes, the low one first.
 fn number_at(s: &[u8], at: usize, width: usize) -> u32
     requires { (at + width ≤ length s.now) × (width ≤ 4) × (width ≡ 3 → ⊥) }
     ensures { (digits width result ≡ take width (drop at s.now)) × (result < 256 ^ width) }
 {
-    if width == 0 {
-        return 0;
+    match width {
+        0 => 0,
+        1 => u32::from(s[at]),
+        2 => u32::from(u16::from_le_bytes([s[at], s[at + 1]])),
+        _ => u32::from_le_bytes([s[at], s[at + 1], s[at + 2], s[at + 3]]),
     }
-    if width == 1 {
-        return byte(s, at);
-    }
-    let low = word(s, at);
-    if width == 2 {
-        return low;
-    }
-    low + word(s, at + 2) * 65536
 }
 
 impl Cursor {
     // Reads one element, and hands the moved cursor back. Each kind has its own arm, so that no place waits for a look-up.
-    pub fn read(self, s: &[u8]) -> Reading
+    pub fn read(self, s: &[u8]) -> Result<(Element, Cursor), Unread>
         ensures { ReadAt s.now self.at result }
     {
         let at = self.at;
         if s.len() <= at {
-            return Reading::End;
+            return Err(Unread::End);
         }
         let k = s[at];
         if s.len() - at < kinds::length_of(k) {
-            return Reading::Cut;
+            return Err(Unread::Cut);
         }
         let body = at + 1;
         // behind a body of no byte, of one, of two, of four
@@ -160,22 +127,22 @@ impl Cursor {
         let two = Cursor { at: body + 2 };
         let four = Cursor { at: body + 4 };
         match k {
-            kinds::CHARACTER => Reading::Got(Element::Character(number_at(s, body, 1)), one),
-            kinds::NAME => Reading::Got(Element::Name(number_at(s, body, 2)), two),
-            kinds::MACRODIGIT => Reading::Got(Element::Macrodigit(number_at(s, body, 4)), four),
-            kinds::OPEN => Reading::Got(Element::Open, none),
-            kinds::CLOSE => Reading::Got(Element::Close, none),
-            kinds::CALL => Reading::Got(Element::Call(number_at(s, body, 2)), two),
-            kinds::RETURN => Reading::Got(Element::Return, none),
-            kinds::S_VARIABLE => Reading::Got(Element::SVariable(number_at(s, body, 1)), one),
-            kinds::T_VARIABLE => Reading::Got(Element::TVariable(number_at(s, body, 1)), one),
-            kinds::E_VARIABLE => Reading::Got(Element::EVariable(number_at(s, body, 1)), one),
-            kinds::EQUALS => Reading::Got(Element::Equals, none),
-            kinds::SENTENCE_END => Reading::Got(Element::SentenceEnd, none),
-            kinds::HEADER => Reading::Got(Element::Header(number_at(s, body, 2)), two),
-            kinds::FUNCTION_END => Reading::Got(Element::FunctionEnd, none),
-            kinds::PROGRAM_END => Reading::Got(Element::ProgramEnd, none),
-            _ => Reading::Unknown,
+            kinds::CHARACTER => Ok((Element::Character(number_at(s, body, 1)), one)),
+            kinds::NAME => Ok((Element::Name(number_at(s, body, 2)), two)),
+            kinds::MACRODIGIT => Ok((Element::Macrodigit(number_at(s, body, 4)), four)),
+            kinds::OPEN => Ok((Element::Open, none)),
+            kinds::CLOSE => Ok((Element::Close, none)),
+            kinds::CALL => Ok((Element::Call(number_at(s, body, 2)), two)),
+            kinds::RETURN => Ok((Element::Return, none)),
+            kinds::S_VARIABLE => Ok((Element::SVariable(number_at(s, body, 1)), one)),
+            kinds::T_VARIABLE => Ok((Element::TVariable(number_at(s, body, 1)), one)),
+            kinds::E_VARIABLE => Ok((Element::EVariable(number_at(s, body, 1)), one)),
+            kinds::EQUALS => Ok((Element::Equals, none)),
+            kinds::SENTENCE_END => Ok((Element::SentenceEnd, none)),
+            kinds::HEADER => Ok((Element::Header(number_at(s, body, 2)), two)),
+            kinds::FUNCTION_END => Ok((Element::FunctionEnd, none)),
+            kinds::PROGRAM_END => Ok((Element::ProgramEnd, none)),
+            _ => Err(Unread::Unknown),
         }
     }
 
@@ -213,18 +180,10 @@ impl Cursor {
         requires { to ≤ length s.now }
         ensures { Characters s.now stop to self.at result.at }
     {
-        if to == 0 {
-            return self;
-        }
-        let last = to - 1;
+        let last = to.saturating_sub(1);
+        // a `for` would not say where it ended
         let mut at = self.at;
-        while at < last {
-            if s[at] != kinds::CHARACTER {
-                return Cursor { at };
-            }
-            if s[at + 1] as u16 == stop {
-                return Cursor { at };
-            }
+        while at < last && s[at] == kinds::CHARACTER && s[at + 1] as u16 != stop {
             at += 2;
         }
         Cursor { at }
@@ -232,18 +191,16 @@ impl Cursor {
 }
 
 // Past the symbol at a place.
-pub fn symbol_end(s: &[u8], at: usize) -> Found
+pub fn symbol_end(s: &[u8], at: usize) -> Option<usize>
     requires { Level s.now at }
     ensures { SymbolEnd s.now at result }
 {
-    if s.len() <= at {
-        return Found::Nothing;
+    let k = *s.get(at)?;
+    if kinds::is_symbol(k) {
+        Some(at + kinds::length_of(k))
+    } else {
+        None
     }
-    let k = s[at];
-    if !kinds::is_symbol(k) {
-        return Found::Nothing;
-    }
-    Found::At(at + kinds::length_of(k))
 }
 
 // The open brackets after an element of kind k.
@@ -251,13 +208,11 @@ pub fn depth_after(k: u8, depth: usize) -> usize
     requires { (1 ≤ depth) × (depth < 18446744073709551615) }
     ensures { result ≡ depth_after k depth }
 {
-    if k == kinds::OPEN {
-        return depth + 1;
+    match k {
+        kinds::OPEN => depth + 1,
+        kinds::CLOSE => depth - 1,
+        _ => depth,
     }
-    if k == kinds::CLOSE {
-        return depth - 1;
-    }
-    depth
 }
 
 // Past the bracket that closes the one that was opened just before a place.
@@ -272,7 +227,7 @@ fn shut_end(s: &[u8], at: usize) -> usize
         let i = c.at;
         // A closing bracket by itself: what stands behind it is read without waiting for a look-up.
         if s[i] == kinds::CLOSE {
-            depth = depth - 1;
+            depth -= 1;
             c = Cursor { at: i + 1 };
         } else {
             let passed = c.pass(s);
@@ -284,135 +239,20 @@ fn shut_end(s: &[u8], at: usize) -> usize
 }
 
 // Past the term at a place.
-pub fn term_end(s: &[u8], at: usize) -> Found
+pub fn term_end(s: &[u8], at: usize) -> Option<usize>
     requires { Level s.now at }
     ensures { TermEnd s.now at result }
 {
-    if s.len() <= at {
-        return Found::Nothing;
-    }
-    let k = s[at];
-    if k == kinds::CLOSE {
-        return Found::Nothing;
-    }
-    if k == kinds::OPEN {
-        return Found::At(shut_end(s, at + 1));
-    }
-    Found::At(at + kinds::length_of(k))
-}
-
-fn same(x: Element, y: Element) -> bool
-    requires { (number_of x < 256 ^ body (kind_of x)) × (number_of y < 256 ^ body (kind_of y)) }
-    ensures { Told result (bytes_of x ≡ bytes_of y) }
-{
-    if kind_of(x) == kind_of(y) {
-        number_of(x) == number_of(y)
-    } else {
-        false
+    match *s.get(at)? {
+        kinds::CLOSE => None,
+        kinds::OPEN => Some(shut_end(s, at + 1)),
+        k => Some(at + kinds::length_of(k)),
     }
 }
 
-// Whether the bytes x[i..j] stand in y from `at` on.
-pub fn stands_at(x: &[u8], i: usize, j: usize, y: &[u8], at: usize) -> bool
-    requires { (i ≤ j) × (j ≤ length x.now) × (at ≤ length y.now) }
-    ensures { Told result (take (j - i) (drop i x.now) ≡ take (j - i) (drop at y.now)) }
-{
-    let n = j - i;
-    if y.len() - at < n {
-        return false;
-    }
-    let mut k: usize = 0;
-    while k < n {
-        if x[i + k] != y[at + k] {
-            return false;
-        }
-        k = k + 1;
-    }
-    true
-}
-
-// Past the element a[at..end], if it stands in both there: byte by byte.
-fn shared_bytes(a: &[u8], b: &[u8], at: usize, end: usize) -> Found
-    requires { ProperAt a.now at × (end ≡ at + 1 + body (get_or a.now at 0)) × (at ≤ length b.now) }
-    ensures { Shared a.now b.now at result }
-{
-    if stands_at(a, at, end, b, at) {
-        Found::At(end)
-    } else {
-        Found::Nothing
-    }
-}
-
-// Past the element at a place, if it stands in both there.
-fn shared_end(a: &[u8], b: &[u8], at: usize) -> Found
-    requires { ProperAt a.now at × (at ≤ length b.now) }
-    ensures { Shared a.now b.now at result }
-{
-    let c = Cursor { at };
-    let passed = c.pass(a);
-    // Most elements are symbols: no element need be made of them.
-    if kinds::is_symbol(passed.kind) {
-        let next = passed.next;
-        return shared_bytes(a, b, at, next.at);
-    }
-    match c.read(a) {
-        Reading::Got(x, next) => match c.read(b) {
-            Reading::Got(y, _) => {
-                if same(x, y) {
-                    Found::At(next.at)
-                } else {
-                    Found::Nothing
-                }
-            }
-            Reading::Unknown => Found::Nothing,
-            Reading::Cut => Found::Nothing,
-            Reading::End => Found::Nothing,
-        },
-        Reading::Unknown => Found::Nothing,
-        Reading::Cut => Found::Nothing,
-        Reading::End => Found::Nothing,
-    }
-}
-
-// Past the characters at a place that stand in both there.
-fn shared_characters(a: &[u8], b: &[u8], at: usize) -> usize
-    requires { Comparing a.now b.now at }
-    ensures { Comparing a.now b.now result × (at ≤ result) }
-{
-    let mut i = at;
-    while i < a.len() {
-        if a[i] != kinds::CHARACTER {
-            return i;
-        }
-        if b[i] != kinds::CHARACTER {
-            return i;
-        }
-        if a[i + 1] != b[i + 1] {
-            return i;
-        }
-        i = i + 2;
-    }
-    i
-}
-
-// Whether two values are equal: element by element.
+// Whether two values are equal: each has one spelling in bytes.
 pub fn equal_values(a: &[u8], b: &[u8]) -> bool
-    requires { Proper (elements a.now) }
     ensures { Told result (elements a.now ≡ elements b.now) }
 {
-    if a.len() != b.len() {
-        return false;
-    }
-    let mut at = shared_characters(a, b, 0);
-    while at < a.len() {
-        match shared_end(a, b, at) {
-            Found::At(next) => {
-                at = shared_characters(a, b, next);
-            }
-            Found::Nothing => {
-                return false;
-            }
-        }
-    }
-    true
+    a == b
 }

@@ -1,10 +1,9 @@
 -- Where an e-variable's value can end.
-use Rattle.std.specs.Prelude.{◌≡◌, Bool, true, false, List, [], ◌∷◌, ◌++◌, ℕ, ◌+◌, ◌-◌, ◌≤◌, ◌<◌, length, get_or, drop}
+use Rattle.std.specs.Prelude.{◌≡◌, Bool, true, false, List, [], ◌∷◌, ◌++◌, ℕ, ◌+◌, ◌-◌, ◌≤◌, ◌<◌, length, get_or, drop, slice_get, Some, None, IsSome}
+use Rattle.std.specs.Prelude as P
 use Rattle.std.proofs.Math.Option.{some}
 use Rattle.meaning.specs.Elements.{elements}
 use Rattle.meaning.specs.Matching.{Terms, Env, bind, seek}
-use Rattle.elements.specs.declared.Found.{Found}
-use Rattle.elements.specs.declared.Found.TheVariants.{At, Nothing}
 use Rattle.elements.specs.Reading.{Splits, TermEnd}
 use Rattle.foreseeing.specs.declared.Ahead.{Ahead}
 use Rattle.settling.specs.Values.{env_of, FreshE}
@@ -13,9 +12,9 @@ use Rattle.settling.specs.Values.{env_of, FreshE}
 pub data Barred (w : Ahead) (s : List ℕ) (i : ℕ) : Type 0 where
   early : i < w.earliest → Barred w s i
   late : w.latest < i → Barred w s i
-  other_kind : 0 < w.first → (get_or s i 0 ≡ w.first → ⊥) → Barred w s i
-  other_second : 0 < w.first → w.second < 256 → (get_or s (i + 1) 0 ≡ w.second → ⊥) → Barred w s i
-  other_third : 0 < w.first → w.third < 256 → (get_or s (i + 2) 0 ≡ w.third → ⊥) → Barred w s i
+  other_kind : {k : ℕ} → w.first ≡ Some k → (slice_get s i ≡ Some k → ⊥) → Barred w s i
+  other_second : {k : ℕ} → w.second ≡ Some k → IsSome w.first → (get_or s (i + 1) 0 ≡ k → ⊥) → Barred w s i
+  other_third : {k : ℕ} → w.third ≡ Some k → IsSome w.first → (get_or s (i + 2) 0 ≡ k → ⊥) → Barred w s i
 
 pub data MayEnd (w : Ahead) (s : List ℕ) (i : ℕ) : Bool → Type 0 where
   may : MayEnd w s i true
@@ -23,17 +22,13 @@ pub data MayEnd (w : Ahead) (s : List ℕ) (i : ℕ) : Bool → Type 0 where
 
 -- only the two places are known
 pub record Window (w : Ahead) (earliest latest : ℕ) : Type 0 where
-  pub first : w.first ≡ 0
+  pub first : w.first ≡ None
   pub from : w.earliest ≡ earliest
   pub to : w.latest ≡ latest
 
-pub record Byte (value : List ℕ) (i r : ℕ) : Type 0 where
-  pub is : r < 256 → (i < length value) × (r ≡ get_or value i 0)
-  pub known : i < length value → r < 256
-
 -- a character is known with its code
 pub record Usable (w : Ahead) (s : List ℕ) : Type 0 where
-  pub character : w.first ≡ 1 → w.second < 256
+  pub character : w.first ≡ Some 1 → IsSome w.second
   pub fits : w.earliest ≤ length s
 
 -- nothing that can be is barred
@@ -71,13 +66,13 @@ pub record Behind (left : List ℕ) (j : ℕ) (arg b : List ℕ) (m i : ℕ) : T
 -- up to r characters are barred, where no first byte is known
 pub record Run (w : Ahead) (s : List ℕ) (at r : ℕ) : Type 0 where
   pub fits : r ≤ length s
-  pub barred : (k : ℕ) → at ≤ k → k < r → w.first ≡ 0 → Barred w s k
+  pub barred : (k : ℕ) → at ≤ k → k < r → w.first ≡ None → Barred w s k
 
 -- terms passed over from `at` on, each at a barred place
 pub data Skipped (w : Ahead) (s : List ℕ) (at : ℕ) : ℕ → Type 0 where
   at_once : Skipped w s at at
-  term_more : {i t : ℕ} → Skipped w s at i → Barred w s i → TermEnd s i (At t) → Skipped w s at t
+  term_more : {i t : ℕ} → Skipped w s at i → Barred w s i → TermEnd s i (Some t) → Skipped w s at t
 
-pub data NextEnd (w : Ahead) (s : List ℕ) (at : ℕ) : Found → Type 0 where
-  ends_at : {t : ℕ} → Skipped w s at t → NextEnd w s at (At t)
-  never_ends : {t : ℕ} → Skipped w s at t → Barred w s t → TermEnd s t Nothing → NextEnd w s at Nothing
+pub data NextEnd (w : Ahead) (s : List ℕ) (at : ℕ) : P.Option ℕ → Type 0 where
+  ends_at : {t : ℕ} → Skipped w s at t → NextEnd w s at (Some t)
+  never_ends : {t : ℕ} → Skipped w s at t → Barred w s t → TermEnd s t None → NextEnd w s at None

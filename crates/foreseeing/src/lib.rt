@@ -1,21 +1,22 @@
 // Where an e-variable's value can end, as far as what comes next in the left side says.
 #![tactic(auto)]
 
-ghost use Rattle.std.specs.Prelude.{◌≡◌, false, ◌∷◌, ◌-◌, ◌≤◌, length};
+ghost use Rattle.std.specs.Prelude.{◌≡◌, ℕ, false, ◌∷◌, ◌≤◌, length, slice_get, Some};
 ghost use Rattle.meaning.specs.Elements.{elements};
 ghost use Rattle.elements.specs.Reading.{Proper, Level};
 ghost use Rattle.settling.specs.Values.{LeftAt, Table, Ready, FreshE};
-ghost use Rattle.foreseeing.specs.Foresight.{Window, Byte, Standing, Behind, Ending, Usable, Sound, MayEnd, Run, NextEnd};
+ghost use Rattle.foreseeing.specs.Foresight.{Window, Standing, Behind, Ending, Usable, Sound, MayEnd, Run, NextEnd};
 
-use elements::{Cursor, Found};
+use elements::Cursor;
+use settling::Values;
 
 // Where an e-variable's value can end: between two places, and where a `first` is known only before an element of that kind, with `second` and
-// `third` as the bytes behind its kind if they are known too. A `first` of 0, a `second` and a `third` of 256 are not known.
+// `third` as the bytes behind its kind if they are known too.
 #[derive(Clone, Copy)]
 pub struct Ahead {
-    first: u8,
-    second: u16,
-    third: u16,
+    first: Option<u8>,
+    second: Option<u8>,
+    third: Option<u8>,
     earliest: usize,
     latest: usize,
 }
@@ -24,32 +25,19 @@ fn between(earliest: usize, latest: usize) -> Ahead
     ensures { Window result earliest latest }
 {
     Ahead {
-        first: 0,
-        second: 256,
-        third: 256,
+        first: None,
+        second: None,
+        third: None,
         earliest,
         latest,
     }
 }
 
-// The difference, or 0.
-fn less(a: usize, b: usize) -> usize
-    ensures { result ≡ a - b }
+// A byte of a value, if it has so many.
+fn byte_of(value: &[u8], i: usize) -> Option<u8>
+    ensures { result ≡ slice_get value.now i }
 {
-    if a < b {
-        return 0;
-    }
-    a - b
-}
-
-// A byte of a value, or 256.
-fn byte_of(value: &[u8], i: usize) -> u16
-    ensures { Byte value.now i result }
-{
-    if value.len() <= i {
-        return 256;
-    }
-    value[i] as u16
+    value.get(i).copied()
 }
 
 // Where what comes next is a value: before its first bytes, or if it is the last of all, where as many bytes are left as it has.
@@ -58,14 +46,11 @@ fn before_value(value: &[u8], last: bool, arg: &[u8]) -> Ahead
     ensures { Sound result arg.now (Standing value.now last arg.now) }
 {
     if last {
-        let end = less(arg.len(), value.len());
+        let end = arg.len().saturating_sub(value.len());
         return between(end, end);
     }
-    if value.len() == 0 {
-        return between(0, arg.len());
-    }
     Ahead {
-        first: value[0],
+        first: byte_of(value, 0),
         second: byte_of(value, 1),
         third: byte_of(value, 2),
         earliest: 0,
@@ -73,126 +58,83 @@ fn before_value(value: &[u8], last: bool, arg: &[u8]) -> Ahead
     }
 }
 
-// Where what comes next is an opening bracket and then a value.
-fn before_bracketed(value: &[u8], arg: &[u8]) -> Ahead
-    ensures { Sound result arg.now (Standing (4 ∷ value.now) false arg.now) }
+// Where what comes next is an opening bracket and then left[j..]. In a table of bracketed entries the key stands there.
+fn before_bracket(left: &[u8], j: usize, values: Values) -> Ahead
+    requires { LeftAt left.now j × Table values.arg.now values.binds.now values.settled }
+    ensures { Sound result values.entry.arg.now (Behind left.now j values.entry.arg.now values.entry.binds.now values.entry.settled) }
 {
+    let value = values.meant(settling::item_at(left, j)).unwrap_or(&[]);
     Ahead {
-        first: kinds::OPEN,
+        first: Some(kinds::OPEN),
         second: byte_of(value, 0),
         third: byte_of(value, 1),
         earliest: 0,
-        latest: arg.len(),
+        latest: values.arg.len(),
     }
-}
-
-// Where what comes next is an opening bracket and then left[j..]. In a table of bracketed entries the key stands there.
-fn before_bracket(left: &[u8], j: usize, arg: &[u8], binds: &[usize], settled: u64) -> Ahead
-    requires { LeftAt left.now j × Table arg.now binds.now settled }
-    ensures { Sound result arg.now (Behind left.now j arg.now binds.now settled) }
-{
-    let c = Cursor { at: j };
-    let passed = c.pass(left);
-    let next = passed.next;
-    let after = next.at;
-    let slot = settling::slot_at(left, j, passed.kind);
-    if slot == kinds::SLOTS {
-        return before_bracketed(&left[j..after], arg);
-    }
-    if kinds::has(settled, slot) {
-        let from = binds[slot];
-        let to = binds[slot + kinds::SLOTS];
-        return before_bracketed(&arg[from..to], arg);
-    }
-    before_bracketed(&left[j..j], arg)
 }
 
 // Where the value of the e-variable in the slot `own` can end that is followed by left[j..].
-pub fn foresee(
-    left: &[u8],
-    j: usize,
-    arg: &[u8],
-    at: usize,
-    binds: &[usize],
-    settled: u64,
-    own: usize,
-) -> Ahead
-    requires { LeftAt left.now j × Ready left.now j arg.now at binds.now settled × FreshE own settled }
-    ensures { Sound result arg.now (Ending left.now j arg.now at binds.now settled own) }
+pub fn foresee(left: &[u8], j: usize, values: Values, at: usize, own: usize) -> Ahead
+    requires { LeftAt left.now j × Ready left.now j values.arg.now at values.binds.now values.settled × FreshE own values.settled }
+    ensures { Sound result values.entry.arg.now (Ending left.now j values.entry.arg.now at values.entry.binds.now values.entry.settled own) }
 {
-    let c = Cursor { at: j };
-    let passed = c.pass(left);
-    let next = passed.next;
-    let after = next.at;
-    if passed.kind == kinds::OPEN {
-        return before_bracket(left, after, arg, binds, settled);
+    let item = settling::item_at(left, j);
+    if left[j] == kinds::OPEN {
+        return before_bracket(left, item.next, values);
     }
-    let last = after == left.len();
-    let slot = settling::slot_at(left, j, passed.kind);
-    if slot == kinds::SLOTS {
-        return before_value(&left[j..after], last, arg);
+    let last = item.next == left.len();
+    if let Some(value) = values.meant(item) {
+        return before_value(value, last, values.arg);
     }
-    if kinds::has(settled, slot) {
-        let from = binds[slot];
-        let to = binds[slot + kinds::SLOTS];
-        return before_value(&arg[from..to], last, arg);
-    }
-    if last {
-        // Twice the same value: two halves. A symbol has five bytes at most.
-        if slot == own {
-            let half = (arg.len() - at) / 2;
-            return between(arg.len() - half, at + half);
+    let end = values.arg.len();
+    match item.slot {
+        // Twice the same value: two halves.
+        Some(slot) if last && slot == own => {
+            let half = (end - at) / 2;
+            between(end - half, at + half)
         }
-        if slot < kinds::T_SLOTS {
-            return between(less(arg.len(), 5), arg.len());
-        }
+        // A symbol has five bytes at most.
+        Some(slot) if last && slot < kinds::T_SLOTS => between(end.saturating_sub(5), end),
+        _ => between(0, end),
     }
-    between(0, arg.len())
 }
 
 // Whether a value can end at a place.
 fn can_end(w: Ahead, arg: &[u8], at: usize) -> bool
     ensures { MayEnd w arg.now at result }
 {
-    if at < w.earliest {
+    if at < w.earliest || w.latest < at {
         return false;
     }
-    if w.latest < at {
-        return false;
-    }
-    if w.first == 0 {
+    let Some(first) = w.first else {
         return true;
-    }
-    if arg.len() <= at {
-        return false;
-    }
-    if arg[at] != w.first {
+    };
+    if arg.len() <= at || arg[at] != first {
         return false;
     }
     // Near the end of the argument no byte is compared.
     if arg.len() - at < 3 {
         return true;
     }
-    if 255 < w.second {
-        return true;
-    }
-    if arg[at + 1] as u16 != w.second {
+    if let Some(second) = w.second
+        && arg[at + 1] != second
+    {
         return false;
     }
-    if 255 < w.third {
-        return true;
+    match w.third {
+        Some(third) => arg[at + 2] == third,
+        None => true,
     }
-    arg[at + 2] as u16 == w.third
 }
 
-// The code of the characters before which a value can end.
+// The code of the characters before which a value can end, or one that no character has.
 fn stop_of(w: Ahead) -> u16
-    ensures { w.first ≡ 1 → result ≡ w.second }
+    ensures { (k : ℕ) → w.first ≡ Some 1 → w.second ≡ Some k → result ≡ k }
 {
-    if w.first == kinds::CHARACTER {
-        return w.second;
+    match (w.first, w.second) {
+        (Some(kinds::CHARACTER), Some(code)) => code as u16,
+        _ => 256,
     }
-    256
 }
 
 // Up to where characters other than that one can be passed over.
@@ -200,38 +142,26 @@ fn run_end(w: Ahead, arg: &[u8], at: usize) -> usize
     requires { w.earliest ≤ length arg.now × (at ≤ length arg.now) }
     ensures { Run w arg.now at result }
 {
-    if 0 < w.first {
-        return arg.len();
+    match w.first {
+        Some(_) => arg.len(),
+        None if at < w.earliest => w.earliest,
+        None if w.latest < at => arg.len(),
+        None => at,
     }
-    if at < w.earliest {
-        return w.earliest;
-    }
-    if w.latest < at {
-        return arg.len();
-    }
-    at
 }
 
 // The first place from `at` on at which a value can end.
-pub fn next_end(w: Ahead, arg: &[u8], at: usize) -> Found
+pub fn next_end(w: Ahead, arg: &[u8], at: usize) -> Option<usize>
     requires { Level arg.now at × Usable w arg.now }
     ensures { NextEnd w arg.now at result }
 {
     let stop = stop_of(w);
     let mut i = at;
-    loop {
-        if can_end(w, arg, i) {
-            return Found::At(i);
-        }
-        match elements::term_end(arg, i) {
-            Found::At(next) => {
-                let c = Cursor { at: next };
-                let behind = c.past_characters(arg, stop, run_end(w, arg, next));
-                i = behind.at;
-            }
-            Found::Nothing => {
-                return Found::Nothing;
-            }
-        }
+    while !can_end(w, arg, i) {
+        let next = elements::term_end(arg, i)?;
+        i = Cursor { at: next }
+            .past_characters(arg, stop, run_end(w, arg, next))
+            .at;
     }
+    Some(i)
 }

@@ -15,15 +15,16 @@ use Rattle.meaning.proofs.Truth.{never}
 use Rattle.meaning.proofs.Searching.{Good, known_each, Each, one_more}
 use Rattle.meaning.proofs.Trying.{first_none, first_one}
 use Rattle.kinds.specs.Slots.{slot_of, within, joined, value_of}
-use Rattle.elements.specs.declared.Found.TheVariants.{At, Nothing}
+use Rattle.std.specs.Prelude.{Some, None}
+use Rattle.std.specs.Prelude as P
 use Rattle.elements.specs.Reading.{Splits, Proper, none, more, Balanced, symbols, opening, closing}
 use Rattle.elements.proofs.Places.{symbol_kind, none_left as nothing_left, ends_here, head, head_symbol, head_open, head_close}
 use Rattle.elements.proofs.Levels.{behind_terms}
-use Rattle.settling.specs.Values.{env_of, Variable, LeftSide, LeftAt, Table, Ready, Kept, FreshE, of_variable, of_fixed, Single, Ways, one_way, no_ways, OnlyEnd, noting, Settled, as_before, noted}
+use Rattle.settling.specs.Values.{env_of, Variable, LeftSide, LeftAt, Table, Ready, Kept, FreshE, Slotted, of_variable, of_fixed, ItemAt, Single, Ways, one_way, no_ways, OnlyEnd, noting, Settled, as_before, noted}
 use Rattle.matching.specs.Binding.{Outcome, lost, won}
 use Rattle.settling.proofs.Slots.{slot_small, env_open, env_settled, bind_again, bind-noted, table_noted, table_sure, noting-kept, kept_self, kept_more, within_more}
 use Rattle.settling.proofs.Sides.{bare, symbol_whole, part-elements, l_head, h_symbol, h_open, h_close, h_variable}
-use Rattle.settling.proofs.Next.{low_fixed, Next}
+use Rattle.settling.proofs.Next.{low_fixed}
 use Rattle.settling.proofs.Ends.{role_fixed, s_role, t_role, e_role, roles}
 
 -- RUNS OF TERMS IN A BALANCED ARGUMENT
@@ -106,40 +107,44 @@ module _ {left : List ℕ} {i : ℕ} {arg : List ℕ} {at : ℕ} {b₀ : List �
   going_left h = record { depth = g.ready.depth; inside = h; left_side = g.ready.left_side }
 
   -- the next element of the left side
-  module _ {next slot : ℕ} (x : Next left here next slot) where
-    side : LeftSide g.ready.depth (x.e ∷ elements (drop next left))
+  module _ {el : List ℕ} {slot : P.Option ℕ} {next : ℕ} (x : ItemAt left here el slot next) where
+    side : LeftSide g.ready.depth (el ∷ elements (drop next left))
     side = rw x.split.front at g.ready.left_side
 
-    pub single_here : (FreshE slot m → ⊥) → Single left here next slot arg place b m
-    single_here f = record { e = x.e; ready = g.ready; split = x.split; slotted = x.slotted; only = f }
+    pub single_here : ((s : ℕ) → slot ≡ Some s → FreshE s m → ⊥) → Single el slot arg place b m
+    single_here f = record {
+      placed = record { depth = g.ready.depth; rest = _; left_side = side; slotted = x.slotted };
+      level = record { depth = g.ready.depth; fits = g.ready.arg_fits; balanced = g.ready.argument };
+      table = g.ready.table;
+      only = f;
+    }
 
     -- an e-variable without a value: its lengths are tried
-    module _ (f : FreshE slot m) where
+    module _ {s : ℕ} (is : slot ≡ Some s) (f : FreshE s m) where
       record Fresh : Type 0 where
         n : ℕ
         v : Variable 10 n
-        is : x.e ≡ 10 ∷ n ∷ []
-        at_slot : slot ≡ slot_of 10 n
+        is_e : el ≡ 10 ∷ n ∷ []
+        at_slot : s ≡ slot_of 10 n
         rest : LeftSide g.ready.depth (elements (drop next left))
 
       fresh_e : Fresh
-      fresh_e =
-          elim x.slotted [
-            | of_fixed h z ↦ never (let u = f.high in omega arith)
-            | of_variable {k} {n} v q z ↦
-                let a = f.low in let s = v.small in let o = v.high in
-                let e : k ≡ 10 = omega arith in
-                record { n = n; v = rw e at v; is = rw e at q; at_slot = rw e at z; rest = past v q }
-          ]
+      fresh_e = go (rw is at x.slotted)
         where
-          past : {k n : ℕ} → Variable k n → x.e ≡ k ∷ n ∷ [] → LeftSide g.ready.depth (elements (drop next left))
+          past : {k n : ℕ} → Variable k n → el ≡ k ∷ n ∷ [] → LeftSide g.ready.depth (elements (drop next left))
           past {k} {n} v q =
               elim (l_head side) [
-                | h_symbol t l s ↦ never (let w = symbol_kind _ t in let a = v.low in let e : kind x.e ≡ k = ap kind q in omega arith)
+                | h_symbol t l s ↦ never (let w = symbol_kind _ t in let a = v.low in let e : kind el ≡ k = ap kind q in omega arith)
                 | h_open p s ↦ never (let a = v.low in let e : k ≡ 4 = sym (ap kind q) ∙ ap kind p in omega arith)
                 | h_close d p s ↦ never (let a = v.low in let e : k ≡ 5 = sym (ap kind q) ∙ ap kind p in omega arith)
                 | h_variable w p s ↦ s
               ]
+
+          go : Slotted el (Some s) → Fresh
+          go (of_variable {k} {n} v q z) =
+              let a = f.low in let c = v.small in let o = v.high in
+              let e : k ≡ 10 = omega arith in
+              record { n = n; v = rw e at v; is_e = rw e at q; at_slot = rw e at z; rest = past v q }
 
       pub fresh_ready : Ready left next arg place b m
       fresh_ready = record {
@@ -152,42 +157,42 @@ module _ {left : List ℕ} {i : ℕ} {arg : List ℕ} {at : ℕ} {b₀ : List �
       }
 
       pub fresh-seek : seek (elements (drop here left)) (elements (drop place arg)) (env_of arg b m)
-          ≡ first_of (seek (elements (drop next left))) (10 ∷ (slot - 32) ∷ []) (env_of arg b m) (fronts (elements (drop place arg)) 0)
+          ≡ first_of (seek (elements (drop next left))) (10 ∷ (s - 32) ∷ []) (env_of arg b m) (fronts (elements (drop place arg)) 0)
       unfolding seek known fresh role
       fresh-seek =
           let z = fresh_e in
-          let n : slot - 32 ≡ z.n = omega (arith, z.at_slot) in
-          rw (x.split.front, z.is, n, env_open arg b m z.v (rw z.at_slot at f.free))
+          let n : s - 32 ≡ z.n = omega (arith, z.at_slot) in
+          rw (x.split.front, z.is_e, n, env_open arg b m z.v (rw z.at_slot at f.free))
 
     -- any other element has one way, or none
-    module _ (o : (e : List ℕ) → Splits left here (e ∷ []) next → Ways (known (env_of arg b m e) e (elements (drop place arg))) arg place Nothing) where
+    module _ (o : Ways (known (env_of arg b m el) el (elements (drop place arg))) arg place None) where
       pub going_stuck : seek (elements (drop here left)) (elements (drop place arg)) (env_of arg b m) ≡ none
       unfolding seek
-      going_stuck = rw x.split.front (stuck (o x.e x.split))
+      going_stuck = rw x.split.front (stuck o)
         where
-          stuck : {ws : List Way} → Ways ws arg place Nothing → first_of (seek (elements (drop next left))) x.e (env_of arg b m) ws ≡ none
-          stuck (no_ways q) = rw q (first_none (seek (elements (drop next left))) x.e (env_of arg b m))
+          stuck : {ws : List Way} → Ways ws arg place None → first_of (seek (elements (drop next left))) el (env_of arg b m) ws ≡ none
+          stuck (no_ways q) = rw q (first_none (seek (elements (drop next left))) el (env_of arg b m))
 
 -- one element further
 module _ {left : List ℕ} {i : ℕ} {arg : List ℕ} {at : ℕ} {b₀ : List ℕ} {m₀ here place : ℕ} {b : List ℕ} {m : ℕ} (g : Going left i arg at b₀ m₀ here place b m)
-    {next slot : ℕ} (x : Next left here next slot) where
+    {el : List ℕ} {slot : P.Option ℕ} {next : ℕ} (x : ItemAt left here el slot next) where
   after : List (List ℕ)
   after = elements (drop next left)
 
   -- the way of an element: what it stands for, and where it ends
   record Taken (end : ℕ) : Type 0 where
     v : List (List ℕ)
-    good : Good (env_of arg b m) x.e (elements (drop place arg)) v (elements (drop end arg))
+    good : Good (env_of arg b m) el (elements (drop place arg)) v (elements (drop end arg))
     split : Splits arg place v end
-    seeks : seek (elements (drop here left)) (elements (drop place arg)) (env_of arg b m) ≡ seek after (elements (drop end arg)) (keep (role x.e) x.e v (env_of arg b m))
+    seeks : seek (elements (drop here left)) (elements (drop place arg)) (env_of arg b m) ≡ seek after (elements (drop end arg)) (keep (role el) el v (env_of arg b m))
 
-  taken : {end : ℕ} → Ways (known (env_of arg b m x.e) x.e (elements (drop place arg))) arg place (At end) → Taken end
+  taken : {end : ℕ} → Ways (known (env_of arg b m el) el (elements (drop place arg))) arg place (Some end) → Taken end
   unfolding seek after
   taken {end} (one_way {v} q p) = record {
     v = v;
-    good = first (rw q at (known_each (env_of arg b m) x.e (elements (drop place arg)) (table_sure arg b m g.ready.table)));
+    good = first (rw q at (known_each (env_of arg b m) el (elements (drop place arg)) (table_sure arg b m g.ready.table)));
     split = p;
-    seeks = rw (x.split.front, q) (first_one (seek (elements (drop next left))) x.e (env_of arg b m) v (elements (drop end arg)));
+    seeks = rw (x.split.front, q) (first_one (seek (elements (drop next left))) el (env_of arg b m) v (elements (drop end arg)));
   }
     where
       first : {P : List (List ℕ) → List (List ℕ) → Type 0} {u w : List (List ℕ)} → Each P (way u w ∷ []) → P u w
@@ -207,52 +212,51 @@ module _ {left : List ℕ} {i : ℕ} {arg : List ℕ} {at : ℕ} {b₀ : List �
       elim (l_head s) [
         | h_symbol h l s' ↦
             let w = symbol_kind _ h in
-            let q : t.v ≡ x.e ∷ [] = rw (role_fixed x.e (low_fixed x.e (omega arith))) at t.good.stands in
+            let q : t.v ≡ el ∷ [] = rw (role_fixed el (low_fixed el (omega arith))) at t.good.stands in
             elim (head (rw (t.good.front, q) at a)) [
               | head_symbol h' l' b' ↦ record { depth = g.ready.depth; left_side = s'; argument = b' }
-              | head_open e b' ↦ never (let z : kind x.e ≡ 4 = ap kind e in omega arith)
-              | head_close d e b' ↦ never (let z : kind x.e ≡ 5 = ap kind e in omega arith)
+              | head_open e b' ↦ never (let z : kind el ≡ 4 = ap kind e in omega arith)
+              | head_close d e b' ↦ never (let z : kind el ≡ 5 = ap kind e in omega arith)
             ]
         | h_open e s' ↦
-            let k : kind x.e ≡ 4 = ap kind e in
-            let q : t.v ≡ x.e ∷ [] = rw (role_fixed x.e (low_fixed x.e (omega arith))) at t.good.stands in
+            let k : kind el ≡ 4 = ap kind e in
+            let q : t.v ≡ el ∷ [] = rw (role_fixed el (low_fixed el (omega arith))) at t.good.stands in
             elim (head (rw (t.good.front, q) at a)) [
               | head_symbol h' l' b' ↦ never (let w = symbol_kind _ h' in omega arith)
               | head_open e' b' ↦ record { depth = suc g.ready.depth; left_side = s'; argument = b' }
-              | head_close d e' b' ↦ never (let z : kind x.e ≡ 5 = ap kind e' in omega arith)
+              | head_close d e' b' ↦ never (let z : kind el ≡ 5 = ap kind e' in omega arith)
             ]
         | h_close {c = d₁} d e s' ↦
-            let k : kind x.e ≡ 5 = ap kind e in
-            let q : t.v ≡ x.e ∷ [] = rw (role_fixed x.e (low_fixed x.e (omega arith))) at t.good.stands in
+            let k : kind el ≡ 5 = ap kind e in
+            let q : t.v ≡ el ∷ [] = rw (role_fixed el (low_fixed el (omega arith))) at t.good.stands in
             elim (head (rw (t.good.front, q) at a)) [
               | head_symbol h' l' b' ↦ never (let w = symbol_kind _ h' in omega arith)
-              | head_open e' b' ↦ never (let z : kind x.e ≡ 4 = ap kind e' in omega arith)
+              | head_open e' b' ↦ never (let z : kind el ≡ 4 = ap kind e' in omega arith)
               | head_close {c = d₂} d' e' b' ↦ (let z : d₂ ≡ d₁ = omega arith in record { depth = d₁; left_side = s'; argument = rw z at b' })
             ]
         | h_variable {k} {n} w e s' ↦
-            let (n', ts) = stands_terms (role x.e) x.e t.v (rw e (no_plain w)) t.good.stands in
+            let (n', ts) = stands_terms (role el) el t.v (rw e (no_plain w)) t.good.stands in
             record { depth = g.ready.depth; left_side = s'; argument = behind_terms ts (rw t.good.front at a) }
       ]
 
   -- the table and the settled slots after the value is noted
   record Noted (end : ℕ) (v : List (List ℕ)) (b' : List ℕ) (m' : ℕ) : Type 0 where
     table : Table arg b' m'
-    env : env_of arg b' m' ≡ keep (role x.e) x.e v (env_of arg b m)
+    env : env_of arg b' m' ≡ keep (role el) el v (env_of arg b m)
     kept : Kept m b b'
     more : (s : ℕ) → s < 48 → within m s ≡ true → within m' s ≡ true
 
-  unchanged : {end : ℕ} (t : Taken end) → (slot < 48 → within m slot ≡ true) → env_of arg b m ≡ keep (role x.e) x.e t.v (env_of arg b m)
+  unchanged : {end : ℕ} (t : Taken end) → ((s : ℕ) → slot ≡ Some s → within m s ≡ true) → env_of arg b m ≡ keep (role el) el t.v (env_of arg b m)
   unfolding keep
-  unchanged t f =
-      elim x.slotted [
-        | of_fixed h z ↦ rw (role_fixed x.e h)
-        | of_variable {k} {n} w e z ↦
-            let l = slot_small w in
-            let s = env_settled arg b m w (rw z at (f (omega arith))) in
-            let q : t.v ≡ elements (value_of arg b (slot_of k n)) = t.good.agrees _ (rw e s) in
-            let y : keep (role x.e) x.e t.v (env_of arg b m) ≡ bind x.e t.v (env_of arg b m) = rw e (keep-bind w _ _) in
-            sym (y ∙ bind_again x.e t.v (env_of arg b m) (rw e (s ∙ ap some (sym q))))
-      ]
+  unchanged t f = go slot refl x.slotted
+    where
+      go : (o : P.Option ℕ) → slot ≡ o → Slotted el o → env_of arg b m ≡ keep (role el) el t.v (env_of arg b m)
+      go None h (of_fixed i) = rw (role_fixed el i)
+      go (Some s) h (of_variable {k} {n} w e z) =
+          let y = env_settled arg b m w (rw z at (f s h)) in
+          let q : t.v ≡ elements (value_of arg b (slot_of k n)) = t.good.agrees _ (rw e y) in
+          let u : keep (role el) el t.v (env_of arg b m) ≡ bind el t.v (env_of arg b m) = rw e (keep-bind w _ _) in
+          sym (u ∙ bind_again el t.v (env_of arg b m) (rw e (y ∙ ap some (sym q))))
 
   noted_on : {end : ℕ} (t : Taken end) {b' : List ℕ} {m' : ℕ} → Settled b m slot place end b' m' → Noted end t.v b' m'
   noted_on t (as_before f eb em) = record {
@@ -261,29 +265,28 @@ module _ {left : List ℕ} {i : ℕ} {arg : List ℕ} {at : ℕ} {b₀ : List �
     kept = rw eb (kept_self m b);
     more = λ s l w. rw em w;
   }
-  noted_on {end} t {b'} {m'} (noted l f eb em) =
-      elim x.slotted [
-        | of_fixed h z ↦ never (omega arith)
-        | of_variable {k} {n} w e z ↦
-            let (n', ts) = stands_terms (role x.e) x.e t.v (rw e (no_plain w)) t.good.stands in
-            let p : Proper t.v = terms_proper ts (elements (drop end arg)) (rw t.good.front at g.ready.argument) in
-            let y : elements (take (end - place) (drop place arg)) ≡ t.v = part-elements t.split p in
-            let long = g.ready.table.long in
-            let ez : b' ≡ noting b (slot_of k n) place end = eb ∙ rw z in
-            let mz : m' ≡ joined m (slot_of k n) = em ∙ rw z in
-            record {
-              table = rw (ez, mz) (table_noted arg b m k n place end w long g.ready.table t.split.on t.split.fits (rw (y, ← e) t.good.stands) (rw y p));
-              env = rw (ez, mz) (bind-noted arg b m k n place end w long ∙ rw (y, e) (sym (keep-bind w t.v (env_of arg b m))));
-              kept = rw ez (noting-kept b (slot_of k n) place end long (slot_small w) m (rw z at f));
-              more = λ s h i. rw mz (within_more m (slot_of k n) s i);
-            }
-      ]
+  noted_on {end} t {b'} {m'} (noted {s} is l f eb em) = go (rw is at x.slotted)
+    where
+      go : Slotted el (Some s) → Noted end t.v b' m'
+      go (of_variable {k} {n} w e z) =
+          let (n', ts) = stands_terms (role el) el t.v (rw e (no_plain w)) t.good.stands in
+          let p : Proper t.v = terms_proper ts (elements (drop end arg)) (rw t.good.front at g.ready.argument) in
+          let y : elements (take (end - place) (drop place arg)) ≡ t.v = part-elements t.split p in
+          let long = g.ready.table.long in
+          let ez : b' ≡ noting b (slot_of k n) place end = eb ∙ rw z in
+          let mz : m' ≡ joined m (slot_of k n) = em ∙ rw z in
+          record {
+            table = rw (ez, mz) (table_noted arg b m k n place end w long g.ready.table t.split.on t.split.fits (rw (y, ← e) t.good.stands) (rw y p));
+            env = rw (ez, mz) (bind-noted arg b m k n place end w long ∙ rw (y, e) (sym (keep-bind w t.v (env_of arg b m))));
+            kept = rw ez (noting-kept b (slot_of k n) place end long (slot_small w) m (rw z at f));
+            more = λ s h i. rw mz (within_more m (slot_of k n) s i);
+          }
 
-  pub going_on : (end : ℕ) {b' : List ℕ} {m' : ℕ} → OnlyEnd left here next arg place b m (At end) → Settled b m slot place end b' m'
+  pub going_on : (end : ℕ) {b' : List ℕ} {m' : ℕ} → OnlyEnd el arg place b m (Some end) → Settled b m slot place end b' m'
       → Going left i arg at b₀ m₀ next end b' m'
   unfolding after
   going_on end o s =
-      let t = taken (o.ways x.e x.split) in
+      let t = taken o.ways in
       let l = levelled t in
       let n = noted_on t s in
       record {

@@ -12,7 +12,7 @@ use Rattle.meaning.specs.Matching.{Terms, stop, symbol, bracket, Stands, role, k
 use Rattle.meaning.proofs.Truth.{never, is_none, is_some, see_o}
 use Rattle.meaning.proofs.Trying.{tries, tries_start, tries_first, tries_term, tries_next, tries_stop, last_takes_all}
 use Rattle.kinds.specs.Slots.{slot_of, within, joined}
-use Rattle.elements.specs.declared.Found.TheVariants.{At, Nothing}
+use Rattle.std.specs.Prelude.{Some, None}
 use Rattle.elements.specs.Reading.{Splits, Balanced, Level, TermEnd, term_at, no_term}
 use Rattle.elements.proofs.Places.{none_left, split_join, split_nothing}
 use Rattle.elements.proofs.Levels.{level_terms, behind_terms}
@@ -79,16 +79,17 @@ module _ {left : List ℕ} {j : ℕ} {arg : List ℕ} {at : ℕ} {b₀ : List �
     kept : Kept m b₀ b₁
     more : (s : ℕ) → s < 48 → within m s ≡ true → within m₁ s ≡ true
 
-  noted_end : {end n : ℕ} {v : List (List ℕ)} {b b₁ : List ℕ} {m₁ : ℕ} → Terms n v → Splits arg at v end → Kept m b₀ b → Settled b m slot at end b₁ m₁ → Noted end v b₁ m₁
-  noted_end t s k (as_before g eb em) = never (let z : true ≡ false = sym (g f.high) ∙ f.free in cc)
-  noted_end {end} {n} {v} {b} {b₁} {m₁} t s k (noted l g eb em) =
+  noted_end : {end n : ℕ} {v : List (List ℕ)} {b b₁ : List ℕ} {m₁ : ℕ} → Terms n v → Splits arg at v end → Kept m b₀ b → Settled b m (Some slot) at end b₁ m₁ → Noted end v b₁ m₁
+  noted_end t s k (as_before g eb em) = never (let z : true ≡ false = sym (g slot refl) ∙ f.free in cc)
+  noted_end {end} {n} {v} {b} {b₁} {m₁} t s k (noted {s = o} is l g eb em) =
       let w = e_variable f in
+      let i : o ≡ slot = cc is in
       let z = e_slot f in
       let pr = terms_proper t (elements (drop end arg)) (rw s.front at r.argument) in
       let y = part-elements s pr in
       let tb = table_kept arg b₀ b m k r.table in
-      let ez : b₁ ≡ noting b (slot_of 10 (slot - 32)) at end = eb ∙ rw (← z) in
-      let mz : m₁ ≡ joined m (slot_of 10 (slot - 32)) = em ∙ rw (← z) in
+      let ez : b₁ ≡ noting b (slot_of 10 (slot - 32)) at end = eb ∙ rw (i, ← z) in
+      let mz : m₁ ≡ joined m (slot_of 10 (slot - 32)) = em ∙ rw (i, ← z) in
       record {
         table = rw (ez, mz) (table_noted arg b m 10 (slot - 32) at end w tb.long tb s.on s.fits (rw y (e_stands (slot - 32) n t w)) (rw y pr));
         env = rw (ez, mz) (bind-noted arg b m 10 (slot - 32) at end w tb.long ∙ rw (y, env_same arg b₀ b m k) (sym (keep-bind w v (env_of arg b₀ m))));
@@ -97,7 +98,7 @@ module _ {left : List ℕ} {j : ℕ} {arg : List ℕ} {at : ℕ} {b₀ : List �
       }
 
   -- the last element of a left side takes what is left
-  pub takes_all : {b₁ : List ℕ} {m₁ : ℕ} → j ≡ length left → Settled b₀ m slot at (length arg) b₁ m₁
+  pub takes_all : {b₁ : List ℕ} {m₁ : ℕ} → j ≡ length left → Settled b₀ m (Some slot) at (length arg) b₁ m₁
       → Outcome arg b₀ m b₁ (first_of (seek (elements (drop j left))) p (env_of arg b₀ m) (fronts (elements (drop at arg)) 0)) true
   takes_all {b₁} {m₁} e s =
       let q : elements (drop j left) ≡ [] = none_left left j (omega arith) in
@@ -116,7 +117,7 @@ module _ {left : List ℕ} {j : ℕ} {arg : List ℕ} {at : ℕ} {b₀ : List �
   pub trying_level : Level arg end
   trying_level = record { depth = g.ready.depth; fits = g.split.fits; balanced = g.balanced }
 
-  pub trying_ready : {b₁ : List ℕ} {m₁ : ℕ} → Settled b m slot at end b₁ m₁ → Ready left j arg end b₁ m₁
+  pub trying_ready : {b₁ : List ℕ} {m₁ : ℕ} → Settled b m (Some slot) at end b₁ m₁ → Ready left j arg end b₁ m₁
   trying_ready s =
       let k = noted_end g.ready g.fresh g.terms g.split g.kept s in
       record { depth = g.ready.depth; left_fits = g.ready.left_fits; arg_fits = g.split.fits; left_side = g.ready.left_side; argument = g.balanced; table = k.table }
@@ -124,7 +125,7 @@ module _ {left : List ℕ} {j : ℕ} {arg : List ℕ} {at : ℕ} {b₀ : List �
   -- nothing goes through with this length
   module _ {b₂ : List ℕ} (k : Kept m b₀ b₂)
       (h : seek (elements (drop j left)) (elements (drop end arg)) (keep (role (10 ∷ (slot - 32) ∷ [])) (10 ∷ (slot - 32) ∷ []) g.v (env_of arg b₀ m)) ≡ none) where
-    longer : {next : ℕ} → TermEnd arg end (At next) → Trying left j arg at b₀ m slot next b₂
+    longer : {next : ℕ} → TermEnd arg end (Some next) → Trying left j arg at b₀ m slot next b₂
     longer {next} (term_at {v = u} t q) = record {
       ready = g.ready;
       fresh = g.fresh;
@@ -140,12 +141,12 @@ module _ {left : List ℕ} {j : ℕ} {arg : List ℕ} {at : ℕ} {b₀ : List �
           ∙ tries_next (seek (elements (drop j left))) (10 ∷ (slot - 32) ∷ []) (env_of arg b₀ m) _ (rw q.front at h);
     }
 
-    no_longer : TermEnd arg end Nothing
+    no_longer : TermEnd arg end None
         → Outcome arg b₀ m b₂ (first_of (seek (elements (drop j left))) (10 ∷ (slot - 32) ∷ []) (env_of arg b₀ m) (fronts (elements (drop at arg)) 0)) false
     no_longer (no_term f) =
         lost (g.same ∙ tries_stop (seek (elements (drop j left))) (10 ∷ (slot - 32) ∷ []) (env_of arg b₀ m) g.v (elements (drop end arg)) f ∙ tries_next (seek (elements (drop j left))) (10 ∷ (slot - 32) ∷ []) (env_of arg b₀ m) none h) k
 
-  module _ {b₁ : List ℕ} {m₁ : ℕ} (s : Settled b m slot at end b₁ m₁) {b₂ : List ℕ} where
+  module _ {b₁ : List ℕ} {m₁ : ℕ} (s : Settled b m (Some slot) at end b₁ m₁) {b₂ : List ℕ} where
     pub trying_found : Outcome arg b₁ m₁ b₂ (seek (elements (drop j left)) (elements (drop end arg)) (env_of arg b₁ m₁)) true
         → Outcome arg b₀ m b₂ (first_of (seek (elements (drop j left))) (10 ∷ (slot - 32) ∷ []) (env_of arg b₀ m) (fronts (elements (drop at arg)) 0)) true
     trying_found (won m₂ q t) =
@@ -158,10 +159,10 @@ module _ {left : List ℕ} {j : ℕ} {arg : List ℕ} {at : ℕ} {b₀ : List �
         let k = noted_end g.ready g.fresh g.terms g.split g.kept s in
         (rw k.env at q, kept_more k.more k.kept k₂)
 
-    pub trying_on : (next : ℕ) → Outcome arg b₁ m₁ b₂ (seek (elements (drop j left)) (elements (drop end arg)) (env_of arg b₁ m₁)) false → TermEnd arg end (At next) → Trying left j arg at b₀ m slot next b₂
+    pub trying_on : (next : ℕ) → Outcome arg b₁ m₁ b₂ (seek (elements (drop j left)) (elements (drop end arg)) (env_of arg b₁ m₁)) false → TermEnd arg end (Some next) → Trying left j arg at b₀ m slot next b₂
     trying_on next o t = let (h, k) = missed o in longer k h t
 
-    pub trying_over : Outcome arg b₁ m₁ b₂ (seek (elements (drop j left)) (elements (drop end arg)) (env_of arg b₁ m₁)) false → TermEnd arg end Nothing
+    pub trying_over : Outcome arg b₁ m₁ b₂ (seek (elements (drop j left)) (elements (drop end arg)) (env_of arg b₁ m₁)) false → TermEnd arg end None
         → Outcome arg b₀ m b₂ (first_of (seek (elements (drop j left))) (10 ∷ (slot - 32) ∷ []) (env_of arg b₀ m) (fronts (elements (drop at arg)) 0)) false
     trying_over o t = let (h, k) = missed o in no_longer k h t
 
@@ -181,14 +182,14 @@ module _ {left : List ℕ} {j : ℕ} {arg : List ℕ} {at : ℕ} {b₀ : List �
   trying_past at_once = g
   trying_past (term_more k o t) = let d = trying_past k in longer d d.kept (barred_none d s o) t
 
-  pub trying_barred : NextEnd w arg end Nothing
+  pub trying_barred : NextEnd w arg end None
       → Outcome arg b₀ m b (first_of (seek (elements (drop j left))) (10 ∷ (slot - 32) ∷ []) (env_of arg b₀ m) (fronts (elements (drop at arg)) 0)) false
   trying_barred (never_ends k o t) = let d = trying_past k in no_longer d d.kept (barred_none d s o) t
 
-  pub trying_next : {t : ℕ} → NextEnd w arg end (At t) → Trying left j arg at b₀ m slot t b
+  pub trying_next : {t : ℕ} → NextEnd w arg end (Some t) → Trying left j arg at b₀ m slot t b
   trying_next (ends_at k) = trying_past k
 
-pub skipped_on : {w : Ahead} {s : List ℕ} {at t : ℕ} → NextEnd w s at (At t) → at ≤ t
+pub skipped_on : {w : Ahead} {s : List ℕ} {at t : ℕ} → NextEnd w s at (Some t) → at ≤ t
 skipped_on {w} {s} {at} (ends_at k) = go k
   where
     go : {i : ℕ} → Skipped w s at i → at ≤ i

@@ -8,7 +8,7 @@ ghost use Rattle.meaning.specs.Matching.{seek, fronts, first_of};
 ghost use Rattle.settling.specs.Values.{env_of, FreshE, Ready};
 ghost use Rattle.matching.specs.Binding.{Outcome, Starting, Matched};
 
-use elements::{Cursor, Found};
+use settling::Values;
 
 // The rest of a left side, from i on, against the rest of an argument.
 #[cycle(match_rest_try_lengths)]
@@ -25,26 +25,23 @@ fn match_rest(
 {
     let mut here = i;
     let mut place = at;
-    let mut known = settled;
+    let mut settled = settled;
     while here < left.len() {
-        let c = Cursor { at: here };
-        let passed = c.pass(left);
-        let next = passed.next;
-        let after = next.at;
-        let slot = settling::slot_at(left, here, passed.kind);
-        if settling::is_fresh_e(slot, known) {
-            return try_lengths(left, after, arg, place, binds, known, slot);
+        let item = settling::item_at(left, here);
+        if let Some(slot) = settling::fresh_e(item.slot, settled) {
+            return try_lengths(left, item.next, arg, place, binds, settled, slot);
         }
-        match settling::only_end(left, here, after, slot, arg, place, binds, known) {
-            Found::At(end) => {
-                known = settling::settle(binds, known, slot, place, end);
-                here = after;
-                place = end;
-            }
-            Found::Nothing => {
-                return false;
-            }
-        }
+        let values = Values {
+            arg,
+            binds,
+            settled,
+        };
+        let Some(end) = values.only_end(item, place) else {
+            return false;
+        };
+        settled = settling::settle(binds, settled, item.slot, place, end);
+        here = item.next;
+        place = end;
     }
     place == arg.len()
 }
@@ -64,28 +61,27 @@ fn try_lengths(
     ensures { Outcome arg.now binds.old settled binds.new (first_of (seek (elements (drop j left.now))) (10 ∷ (slot - 32) ∷ []) (env_of arg.now binds.old settled) (fronts (elements (drop at arg.now)) 0)) result }
 {
     if j == left.len() {
-        settling::settle(binds, settled, slot, at, arg.len());
+        settling::settle(binds, settled, Some(slot), at, arg.len());
         return true;
     }
-    let w = foreseeing::foresee(left, j, arg, at, binds, settled, slot);
+    let values = Values {
+        arg,
+        binds,
+        settled,
+    };
+    let w = foreseeing::foresee(left, j, values, at, slot);
     let mut from = at;
-    loop {
-        let Found::At(end) = foreseeing::next_end(w, arg, from) else {
-            return false;
-        };
-        let known = settling::settle(binds, settled, slot, at, end);
+    while let Some(end) = foreseeing::next_end(w, arg, from) {
+        let known = settling::settle(binds, settled, Some(slot), at, end);
         if match_rest(left, j, arg, end, binds, known) {
             return true;
         }
-        match elements::term_end(arg, end) {
-            Found::At(next) => {
-                from = next;
-            }
-            Found::Nothing => {
-                return false;
-            }
-        }
+        let Some(next) = elements::term_end(arg, end) else {
+            return false;
+        };
+        from = next;
     }
+    false
 }
 
 // A left side against an argument.

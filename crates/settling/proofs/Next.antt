@@ -2,7 +2,7 @@
 use mathlib.Core.Path.{◌≡◌, refl, sym, ◌∙◌, ap}
 use mathlib.Core.Bool.{false}
 use mathlib.Core.List.{List, [], ◌∷◌}
-use Prim.Native.Nat.{ℕ, suc, ◌+◌, ◌≤◌, ◌<◌}
+use Prim.Native.Nat.{ℕ, suc, ◌+◌, ◌-◌, ◌≤◌, ◌<◌}
 use native.Mathlib.Omega.{arith}
 use lib.ListN.{length, get_or, take, drop}
 use lib.Dec.{leb}
@@ -11,11 +11,13 @@ use Rattle.meaning.specs.Elements.{kind, body, elements, is_variable}
 use Rattle.meaning.specs.Goodness.{span}
 use Rattle.meaning.proofs.Truth.{never, is_true, is_false, see}
 use Rattle.kinds.specs.Slots.{slot_of}
-use Rattle.elements.specs.Reading.{Splits, Whole1, PassedOver, ProperAt}
+use Rattle.std.specs.Prelude.{Some, None}
+use Rattle.std.specs.Prelude as P
+use Rattle.elements.specs.Reading.{Splits, Whole1, ProperAt}
 use Rattle.elements.proofs.Digits.{one_byte}
 use Rattle.elements.proofs.Places.{symbol_kind, none_left as nothing_left, here as there, kind_here, cut_here, proper_splits}
-use Rattle.settling.specs.Values.{Variable, LeftSide, l_symbol, l_open, l_close, l_variable, LeftAt, SlotAt, Slotted, of_variable, of_fixed}
-use Rattle.settling.proofs.Sides.{bare, symbol_whole, l_head, h_symbol, h_open, h_close, h_variable}
+use Rattle.settling.specs.Values.{Variable, LeftSide, l_symbol, l_open, l_close, l_variable, LeftAt, ItemAt, Placed, of_variable, of_fixed}
+use Rattle.settling.proofs.Sides.{bare, symbol_whole, one_bytes, l_head, h_symbol, h_open, h_close, h_variable}
 use Rattle.settling.proofs.Ends.{s_role, t_role, e_role, roles}
 
 variable_whole : {k n : ℕ} → Variable k n → Whole1 (k ∷ n ∷ [])
@@ -53,13 +55,6 @@ module _ {left : List ℕ} {at : ℕ} (l : LeftAt left at) where
   same_there : (e : List ℕ) (es : List (List ℕ)) → elements (drop at left) ≡ e ∷ es → there left at l.inside ≡ e
   same_there e es q = cc (cut_here left at l.inside, q)
 
-  -- the slot by the kind
-  pub slot_fixed : get_or left at 0 < 8 → SlotAt left at 48
-  slot_fixed h = record {
-    slotted = λ e es q. of_fixed (low_fixed e (let k : kind e ≡ get_or left at 0 = sym (ap kind (same_there e es q)) ∙ kind_here left at l.inside in omega arith)) refl;
-    high = omega arith;
-  }
-
   pub record NamedAt : Type 0 where
     pub v : Variable (get_or left at 0) (get_or left (at + 1) 0)
     pub long : at + 1 < length left
@@ -82,34 +77,39 @@ module _ {left : List ℕ} {at : ℕ} (l : LeftAt left at) where
             record { v = rw (ek, en) v; long = long; is = rw one (ap {B = List ℕ} (λ (l : List ℕ). get_or left at 0 ∷ l) (one_byte left (at + 1) long)) }
       ]
 
-  pub slot_named : 8 ≤ get_or left at 0 → (r : ℕ) → r ≡ slot_of (get_or left at 0) (get_or left (at + 1) 0) → r < 48 → SlotAt left at r
-  slot_named h r q s =
+  -- the element there, by its kind
+  pub item_fixed : {next : ℕ} → get_or left at 0 < 8 → next ≡ at + 1 + body (get_or left at 0) → ItemAt left at left_proper.e None next
+  item_fixed h q = record { on = omega arith; split = rw q (proper_splits left_proper); slotted = of_fixed (low_fixed left_proper.e (rw left_kind h)) }
+
+  pub item_named : {next slot : ℕ} → 8 ≤ get_or left at 0 → next ≡ at + 1 + body (get_or left at 0) → slot ≡ slot_of (get_or left at 0) (get_or left (at + 1) 0)
+      → ItemAt left at left_proper.e (Some slot) next
+  unfolding left_proper
+  item_named h q z =
       let n = named_at h in
-      record { slotted = λ e es p. of_variable n.v (sym (same_there e es p) ∙ n.is) q; high = omega arith }
+      record { on = omega arith; split = rw q (proper_splits left_proper); slotted = of_variable n.v n.is z }
 
--- the next element of a left side, the place behind it and its slot
-pub record Next (left : List ℕ) (here next slot : ℕ) : Type 0 where
-  pub e : List ℕ
-  pub kind_is : kind e ≡ get_or left here 0
-  pub on : here < next
-  pub split : Splits left here (e ∷ []) next
-  pub slotted : Slotted e slot
+  -- its bytes
+  pub item_bytes : {next : ℕ} → next ≡ at + 1 + body (get_or left at 0) → take (next - at) (drop at left) ≡ left_proper.e
+  item_bytes {next} q = let p : Splits left at (left_proper.e ∷ []) next = rw q (proper_splits left_proper) in one_bytes p
 
-pub next_here : {left : List ℕ} {here k next slot : ℕ} → LeftAt left here → PassedOver left here k next → SlotAt left here slot → Next left here next slot
-next_here l p s =
-    let w = left_proper l in
-    let q = p.next_is in
-    record { e = w.e; kind_is = left_kind l; on = omega arith; split = rw q (proper_splits w); slotted = s.slotted w.e w.es w.is }
+-- it is an element of the left side
+pub item_placed : {left : List ℕ} {at : ℕ} {e : List ℕ} {slot : P.Option ℕ} {next : ℕ} → LeftAt left at → ItemAt left at e slot next → Placed e slot
+item_placed l x = record { depth = l.depth; rest = _; left_side = rw x.split.front at l.left_side; slotted = x.slotted }
+
+-- its kind
+pub item_kind : {left : List ℕ} {at : ℕ} {e : List ℕ} {slot : P.Option ℕ} {next : ℕ} → LeftAt left at → ItemAt left at e slot next → kind e ≡ get_or left at 0
+item_kind {e = e} l x = let q : (left_proper l).e ≡ e = cc ((left_proper l).is, x.split.front) in sym (ap kind q) ∙ left_kind l
 
 -- an opening bracket, and the left side behind it
-pub opening_next : {left : List ℕ} {here next slot : ℕ} → LeftAt left here → (x : Next left here next slot) → get_or left here 0 ≡ 4 → (x.e ≡ 4 ∷ []) × LeftAt left next
-opening_next {left} {here} {next} l x h =
-    let e = x.kind_is in
+pub opening_next : {left : List ℕ} {here : ℕ} {e : List ℕ} {slot : P.Option ℕ} {next : ℕ} → LeftAt left here → (x : ItemAt left here e slot next) → get_or left here 0 ≡ 4
+    → (e ≡ 4 ∷ []) × LeftAt left next
+opening_next {left} {here} {e = el} {next = next} l x h =
+    let e = item_kind l x in
     elim (l_head (rw x.split.front at l.left_side)) [
       | h_symbol t z s ↦ never (let y = symbol_kind _ t in omega arith)
       | h_open z s ↦ (z, record { depth = suc l.depth; inside = more_left s; left_side = s })
-      | h_close d z s ↦ never (let y : kind x.e ≡ 5 = ap kind z in omega arith)
-      | h_variable {k} {n} v z s ↦ never (let y : kind x.e ≡ k = ap kind z in let o = v.low in omega arith)
+      | h_close d z s ↦ never (let y : kind el ≡ 5 = ap kind z in omega arith)
+      | h_variable {k} {n} v z s ↦ never (let y : kind el ≡ k = ap kind z in let o = v.low in omega arith)
     ]
   where
     not_over : {d : ℕ} {es : List (List ℕ)} → LeftSide (suc d) es → es ≡ [] → ⊥

@@ -1,7 +1,7 @@
 -- Elements of left sides and arguments: whole ones, parts of bytes, the head of a left side.
 use mathlib.Core.Path.{◌≡◌, refl, sym, ◌∙◌, ap}
 use mathlib.Core.Bool.{true}
-use mathlib.Core.List.{List, [], ◌∷◌, append-nil}
+use mathlib.Core.List.{List, [], ◌∷◌, ◌++◌, append-nil}
 use Prim.Native.Nat.{ℕ, suc, ◌-◌}
 use native.Mathlib.Omega.{arith}
 use lib.ListN.{length, take, drop}
@@ -38,6 +38,15 @@ part_bytes {s} {at} {v} {next} p = rw (split_bytes p) (take_at (join v) (drop ne
 pub part-elements : {s : List ℕ} {at : ℕ} {v : List (List ℕ)} {next : ℕ} → Splits s at v next → Proper v → elements (take (next - at) (drop at s)) ≡ v
 unfolding cut
 part-elements {v = v} p w = ap elements (part_bytes p ∙ sym (append-nil (join v))) ∙ cut-join (proper_whole w) [] ∙ append-nil v
+
+-- one element's bytes are the element
+pub one_bytes : {s : List ℕ} {at : ℕ} {e : List ℕ} {next : ℕ} → Splits s at (e ∷ []) next → take (next - at) (drop at s) ≡ e
+unfolding join
+one_bytes {e = e} p = part_bytes p ∙ append-nil e
+
+pub one_element : (e : List ℕ) → Whole1 e → elements e ≡ e ∷ []
+unfolding join cut
+one_element e w = ap elements (sym (append-nil e) ∙ sym (append-nil (e ++ []))) ∙ cut-join (proper_whole (more w none)) [] ∙ refl
 
 -- the head of a left side
 pub data LHead (d : ℕ) (e : List ℕ) (es : List (List ℕ)) : Type 0 where

@@ -2,111 +2,129 @@
 // lent table of 96 numbers: of a variable's slot, the start of its value in the argument, and 48 further on its end.
 #![tactic(auto)]
 
-ghost use Rattle.std.specs.Prelude.{◌≡◌, ◌-◌, ◌≤◌, length, get_or, take, drop};
+ghost use Rattle.std.specs.Prelude.{◌≡◌, ℕ, false, true, ◌-◌, ◌<◌, ◌≤◌, length, get_or, take, drop, MatchOption, IfSome, Some};
 ghost use Rattle.meaning.specs.Elements.{elements};
-ghost use Rattle.elements.specs.Bytes.{Told};
 ghost use Rattle.elements.specs.Reading.{Proper};
-ghost use Rattle.settling.specs.Values.{LeftAt, SlotAt, Part, ValueEnd, Single, OnlyEnd, Settling, Settled, FreshE};
+ghost use Rattle.kinds.specs.Slots.{within, value_of};
+ghost use Rattle.settling.specs.Values.{LeftAt, ItemAt, ValueEnd, Placed, Meant, Open, Table, Single, OnlyEnd, Settling, Settled, FreshE};
 
-use elements::Found;
+use elements::Cursor;
 
-// The slot of the element of a left side at a place, of which the kind is known; 48 for one that is no variable.
-pub fn slot_at(left: &[u8], at: usize, kind: u8) -> usize
-    requires { LeftAt left.now at × (kind ≡ get_or left.now at 0) }
-    ensures { SlotAt left.now at result }
-{
-    if kind < kinds::S_VARIABLE {
-        return kinds::SLOTS;
-    }
-    kinds::slot(kind, left[at + 1])
+// An element of a left side: its bytes, its slot if it is a variable, and the place behind it.
+#[derive(Clone, Copy)]
+pub struct Item<'a> {
+    pub bytes: &'a [u8],
+    pub slot: Option<usize>,
+    pub next: usize,
 }
 
-// Past the element s[i..j], if it stands at a place of the argument: its few bytes are compared.
-fn element_end(s: &[u8], i: usize, j: usize, arg: &[u8], at: usize) -> Found
-    requires { Part s.now i j × (at ≤ length arg.now) }
-    ensures { ValueEnd (elements (take (j - i) (drop i s.now))) arg.now at result }
+// An argument, the table of values in it, and the settled slots: those that have a value.
+#[derive(Clone, Copy)]
+pub struct Values<'a> {
+    pub arg: &'a [u8],
+    pub binds: &'a [usize],
+    pub settled: u64,
+}
+
+// The element of a left side at a place.
+pub fn item_at(left: &[u8], at: usize) -> Item<'_>
+    requires { LeftAt left.now at }
+    ensures { ItemAt left.now at result.bytes.now result.slot result.next }
 {
-    if elements::stands_at(s, i, j, arg, at) {
-        Found::At(at + (j - i))
+    let passed = Cursor { at }.pass(left);
+    let slot = if passed.kind < kinds::S_VARIABLE {
+        None
     } else {
-        Found::Nothing
+        Some(kinds::slot(passed.kind, left[at + 1]))
+    };
+    let next = passed.next.at;
+    Item {
+        bytes: &left[at..next],
+        slot,
+        next,
     }
 }
 
 // Past a value, if it stands at a place of the argument.
-fn value_end(value: &[u8], arg: &[u8], at: usize) -> Found
+fn value_end(value: &[u8], arg: &[u8], at: usize) -> Option<usize>
     requires { Proper (elements value.now) × (at ≤ length arg.now) }
     ensures { ValueEnd (elements value.now) arg.now at result }
 {
     let n = value.len();
     if arg.len() - at < n {
-        return Found::Nothing;
+        return None;
     }
     let end = at + n;
     if elements::equal_values(value, &arg[at..end]) {
-        Found::At(end)
+        Some(end)
     } else {
-        Found::Nothing
+        None
     }
 }
 
-// Past what the element left[i..j] stands for, where only one value is possible: anything but an e-variable without a value.
-pub fn only_end(
-    left: &[u8],
-    i: usize,
-    j: usize,
-    slot: usize,
-    arg: &[u8],
-    at: usize,
-    binds: &[usize],
-    settled: u64,
-) -> Found
-    requires { Single left.now i j slot arg.now at binds.now settled }
-    ensures { OnlyEnd left.now i j arg.now at binds.now settled result }
-{
-    if slot == kinds::SLOTS {
-        return element_end(left, i, j, arg, at);
-    }
-    if kinds::has(settled, slot) {
-        let from = binds[slot];
-        let to = binds[slot + kinds::SLOTS];
-        if slot < kinds::T_SLOTS {
-            return element_end(arg, from, to, arg, at);
+impl<'a> Values<'a> {
+    // The value in a slot, if it is settled.
+    fn value(self, slot: usize) -> Option<&'a [u8]>
+        requires { Table self.arg.now self.binds.now self.settled × (slot < 48) }
+        ensures { MatchOption result (within self.entry.settled slot ≡ false) (λ v. (within self.entry.settled slot ≡ true) × (v.now ≡ value_of self.entry.arg.now self.entry.binds.now slot)) }
+    {
+        if kinds::has(self.settled, slot) {
+            let from = self.binds[slot];
+            let to = self.binds[slot + kinds::SLOTS];
+            Some(&self.arg[from..to])
+        } else {
+            None
         }
-        return value_end(&arg[from..to], arg, at);
     }
-    if slot < kinds::T_SLOTS {
-        return elements::symbol_end(arg, at);
+
+    // What an element stands for, if that is known.
+    pub fn meant(self, item: Item<'a>) -> Option<&'a [u8]>
+        requires { Placed item.bytes.now item.slot × Table self.arg.now self.binds.now self.settled }
+        ensures { MatchOption result (Open item.entry.slot self.entry.settled) (λ v. Meant item.entry.bytes.now item.entry.slot self.entry.arg.now self.entry.binds.now self.entry.settled v.now) }
+    {
+        match item.slot {
+            Some(slot) => self.value(slot),
+            None => Some(item.bytes),
+        }
     }
-    elements::term_end(arg, at)
+
+    // Past what an element stands for, where only one value is possible: anything but an e-variable without a value.
+    pub fn only_end(self, item: Item<'a>, at: usize) -> Option<usize>
+        requires { Single item.bytes.now item.slot self.arg.now at self.binds.now self.settled }
+        ensures { OnlyEnd item.entry.bytes.now self.entry.arg.now at self.entry.binds.now self.entry.settled result }
+    {
+        if let Some(value) = self.meant(item) {
+            return value_end(value, self.arg, at);
+        }
+        match item.slot {
+            Some(slot) if slot < kinds::T_SLOTS => elements::symbol_end(self.arg, at),
+            _ => elements::term_end(self.arg, at),
+        }
+    }
 }
 
 // Notes a variable's value, if it has none yet, and answers the settled slots.
-pub fn settle(binds: &mut [usize], settled: u64, slot: usize, from: usize, to: usize) -> u64
+pub fn settle(binds: &mut [usize], settled: u64, slot: Option<usize>, from: usize, to: usize) -> u64
     requires { Settling binds.old slot }
     ensures { Settled binds.old settled slot from to binds.new result }
 {
-    if slot == kinds::SLOTS {
-        return settled;
+    match slot {
+        Some(slot) if !kinds::has(settled, slot) => {
+            binds[slot] = from;
+            binds[slot + kinds::SLOTS] = to;
+            kinds::with(settled, slot)
+        }
+        _ => settled,
     }
-    if kinds::has(settled, slot) {
-        return settled;
-    }
-    binds[slot] = from;
-    binds[slot + kinds::SLOTS] = to;
-    kinds::with(settled, slot)
 }
 
-// Whether a slot is that of an e-variable without a value.
-pub fn is_fresh_e(slot: usize, settled: u64) -> bool
-    requires { slot ≤ 48 }
-    ensures { Told result (FreshE slot settled) }
+// The slot of an e-variable without a value.
+pub fn fresh_e(slot: Option<usize>, settled: u64) -> Option<usize>
+    requires { IfSome slot (λ s. s < 48) }
+    ensures { MatchOption result ((s : ℕ) → slot ≡ Some s → FreshE s settled → ⊥) (λ s. (slot ≡ Some s) × FreshE s settled) }
 {
-    if slot < kinds::E_SLOTS {
-        return false;
+    match slot {
+        Some(slot) if kinds::E_SLOTS <= slot && !kinds::has(settled, slot) => Some(slot),
+        _ => None,
     }
-    if slot == kinds::SLOTS {
-        return false;
-    }
-    !kinds::has(settled, slot)
 }

@@ -1,15 +1,16 @@
 use Rattle.elements.specs.Reading.{depth_after}
-use borrow.Author.Tests.{eq-eqb, ne_eqb}
+use borrow.Author.Tests.{ne_eqb}
+use native.Mathlib.Omega.{arith}
 use Rattle.elements.proofs.depth_after.Goals as goal
 
-pub returns-then-k-eq-OPEN : goal.returns-then-k-eq-OPEN
+pub returns-in-4 : goal.returns-in-4
 unfolding depth_after
-returns-then-k-eq-OPEN c = rw (eq-eqb _ _ c.if-k-eq-OPEN.true)
+returns-in-4 c = rw c.in-4.is
 
-pub returns-then-k-eq-CLOSE : goal.returns-then-k-eq-CLOSE
+pub returns-in-5 : goal.returns-in-5
 unfolding depth_after
-returns-then-k-eq-CLOSE c = rw (ne_eqb _ _ c.if-k-eq-OPEN.false, eq-eqb _ _ c.if-k-eq-CLOSE.true)
+returns-in-5 c = rw c.in-5.is
 
-pub returns : goal.returns
+pub returns-in_default : goal.returns-in_default
 unfolding depth_after
-returns c = rw (ne_eqb _ _ c.if-k-eq-OPEN.false, ne_eqb _ _ c.if-k-eq-CLOSE.false)
+returns-in_default c = rw (ne_eqb c.args.k 4 (λ q. omega arith), ne_eqb c.args.k 5 (λ q. omega arith))

@@ -6,15 +6,20 @@ use Rattle.elements.specs.Reading.{symbol_at}
 use Rattle.elements.proofs.Places.{behind, no_symbol_end, no_symbol_here, symbol_here, symbol_kind}
 use Rattle.elements.proofs.symbol_end.Goals as goal
 
-pub returns-then-s-at : goal.returns-then-s-at
-returns-then-s-at c = no_symbol_end c.args.s.now c.args.at c.if-s-at.true
+pub returns-in_err-k : goal.returns-in_err-k
+returns-in_err-k c =
+    rw c.from_residual.ensures (no_symbol_end c.args.s.now c.args.at (let h = c.in_err-k.ensures.lookup in omega (arith, h)))
 
-pub returns-then-not-is_symbol : goal.returns-then-not-is_symbol
-returns-then-not-is_symbol c =
-    no_symbol_here c.args.s.now c.args.at (omega arith) (sym c.is_symbol.ensures ∙ c.if-not-is_symbol.true)
+pub returns-then-is_symbol : goal.returns-then-is_symbol
+returns-then-is_symbol c =
+    let (h, d) = c.in_ok-k.ensures.lookup.3 in
+    let e = d 0 in
+    let t = rw e at (sym c.is_symbol.ensures ∙ c.if-is_symbol.true) in
+    let k = symbol_kind (_ ∷ []) (true_T _ t) in
+    let (t, p) = symbol_here c.args.s.now c.args.at h c.requires.balanced (λ e. omega (arith, k, e)) (λ e. omega (arith, k, e)) in
+    rw (behind c.args.at _ (rw e at c.length_of.ensures.0)) (symbol_at t p)
 
-pub returns : goal.returns
-returns c =
-    let k = symbol_kind (_ ∷ []) (true_T _ (sym c.is_symbol.ensures ∙ c.if-not-is_symbol.false)) in
-    let (t, p) = symbol_here c.args.s.now c.args.at (omega arith) c.requires.balanced (λ e. omega (arith, k, e)) (λ e. omega (arith, k, e)) in
-    rw (behind c.args.at _ c.length_of.ensures.0) (symbol_at t p)
+pub returns-else-is_symbol : goal.returns-else-is_symbol
+returns-else-is_symbol c =
+    let (h, d) = c.in_ok-k.ensures.lookup.3 in
+    no_symbol_here c.args.s.now c.args.at h (rw (d 0) at (sym c.is_symbol.ensures ∙ c.if-is_symbol.false))

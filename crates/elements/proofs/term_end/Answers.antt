@@ -1,3 +1,4 @@
+use mathlib.Core.Path.{sym, ◌∙◌}
 use Rattle.elements.proofs.Levels.{shutting_here, bracketed}
 use Rattle.elements.proofs.Places.{behind, no_term_end, no_term_here, symbol_here}
 use Rattle.elements.specs.Reading.{term_at}
@@ -5,28 +6,35 @@ use Rattle.meaning.specs.Matching.{symbol, stop}
 use native.Mathlib.Omega.{arith}
 use Rattle.elements.proofs.term_end.Goals as goal
 
-pub returns-then-s-at : goal.returns-then-s-at
-returns-then-s-at c = no_term_end c.args.s.now c.args.at c.if-s-at.true
-
-pub returns-then-k-eq-CLOSE : goal.returns-then-k-eq-CLOSE
-returns-then-k-eq-CLOSE c = no_term_here c.args.s.now c.args.at (omega arith) c.if-k-eq-CLOSE.true
+pub returns-in_err-k : goal.returns-in_err-k
+returns-in_err-k c =
+    rw c.from_residual.ensures (no_term_end c.args.s.now c.args.at (let h = c.in_err-k.ensures.lookup in omega (arith, h)))
 
 pub shut_end-requires : goal.shut_end-requires
-shut_end-requires c = shutting_here c.args.s.now c.args.at (omega arith) c.requires c.if-k-eq-OPEN.true
+shut_end-requires c =
+    let (h, d) = c.in_ok-k.ensures.lookup.3 in
+    shutting_here c.args.s.now c.args.at h c.requires (sym (d 0) ∙ c.in-4.is)
 
-pub returns-then-k-eq-OPEN : goal.returns-then-k-eq-OPEN
-returns-then-k-eq-OPEN c =
-    bracketed c.args.s.now c.args.at _ (omega arith) c.requires c.if-k-eq-OPEN.true c.shut_end.ensures
+pub returns-in-5 : goal.returns-in-5
+returns-in-5 c =
+    let (h, d) = c.in_ok-k.ensures.lookup.3 in
+    no_term_here c.args.s.now c.args.at h (sym (d 0) ∙ c.in-5.is)
+
+pub returns-in-4 : goal.returns-in-4
+returns-in-4 c =
+    let (h, d) = c.in_ok-k.ensures.lookup.3 in
+    bracketed c.args.s.now c.args.at _ h c.requires (sym (d 0) ∙ c.in-4.is) c.shut_end.ensures
 
 pub overflow_add-result : goal.overflow_add-result
 overflow_add-result c =
-    omega (
-      arith,
-      (symbol_here c.args.s.now c.args.at (omega arith) c.requires.balanced c.if-k-eq-OPEN.false c.if-k-eq-CLOSE.false).1.fits,
-      c.length_of.ensures.0,
-    )
+    let (h, d) = c.in_ok-k.ensures.lookup.3 in
+    let e = d 0 in
+    let (t, p) = symbol_here c.args.s.now c.args.at h c.requires.balanced (λ q. omega arith) (λ q. omega arith) in
+    omega (arith, p.fits, rw e at c.length_of.ensures.0)
 
-pub returns : goal.returns
-returns c =
-    let (t, p) = symbol_here c.args.s.now c.args.at (omega arith) c.requires.balanced c.if-k-eq-OPEN.false c.if-k-eq-CLOSE.false in
-    rw (behind c.args.at _ c.length_of.ensures.0) (term_at (symbol t stop) p)
+pub returns-in_default : goal.returns-in_default
+returns-in_default c =
+    let (h, d) = c.in_ok-k.ensures.lookup.3 in
+    let e = d 0 in
+    let (t, p) = symbol_here c.args.s.now c.args.at h c.requires.balanced (λ q. omega arith) (λ q. omega arith) in
+    rw (behind c.args.at _ (rw e at c.length_of.ensures.0)) (term_at (symbol t stop) p)

@@ -1,41 +1,37 @@
 use Rattle.foreseeing.specs.Foresight.{early, late, other_kind, other_second, may, may_not}
-use Rattle.foreseeing.proofs.Foreseen.{ends_nothing, third_told}
+use Rattle.foreseeing.proofs.Foreseen.{third_told}
 use native.Mathlib.Omega.{arith}
-use Prim.Native.Nat.{◌+◌}
+use mathlib.Core.Path.{refl}
+use Rattle.meaning.proofs.Truth.{never}
+use Rattle.std.proofs.lemmas.Option.{slice_get_within, get_or_from_slice_get}
+use Rattle.foreseeing.proofs.can_end.Goals.{then-at-w-via-then-at-w, then-at-w-via-else-at-w+then-w-at, then-arg-at-via-then-arg-at, then-arg-at-via-else-arg-at+then-arg-at-2}
 use Rattle.foreseeing.proofs.can_end.Goals as goal
 
 pub returns-then-at-w : goal.returns-then-at-w
-returns-then-at-w c = may_not (early c.if-at-w.true)
+returns-then-at-w c =
+    elim c.then-at-w.branch [
+      | then-at-w-via-then-at-w w ↦ may_not (early w.if-at-w.true)
+      | then-at-w-via-else-at-w+then-w-at w ↦ may_not (late w.if-w-at.true)
+    ]
 
-pub returns-then-w-at : goal.returns-then-w-at
-returns-then-w-at c = may_not (late c.if-w-at.true)
-
-pub returns-then-w-eq0 : goal.returns-then-w-eq0
-returns-then-w-eq0 c = may
+pub returns-in_default : goal.returns-in_default
+returns-in_default c = may
 
 pub returns-then-arg-at : goal.returns-then-arg-at
-returns-then-arg-at c = ends_nothing c.if-w-eq0.false c.if-arg-at.true
-
-pub returns-then-arg-at-2 : goal.returns-then-arg-at-2
-returns-then-arg-at-2 c = may_not (other_kind (omega arith) c.if-arg-at-2.true)
+returns-then-arg-at c =
+    elim c.then-arg-at.branch [
+      | then-arg-at-via-then-arg-at w ↦ may_not (other_kind c.in-Some.is (λ q. never (let l = slice_get_within c.args.arg.now c.args.at c.in-Some.first q in let h = w.if-arg-at.true in omega arith)))
+      | then-arg-at-via-else-arg-at+then-arg-at-2 w ↦ may_not (other_kind c.in-Some.is (λ q. w.if-arg-at-2.true (get_or_from_slice_get c.args.arg.now c.args.at c.in-Some.first 0 q)))
+    ]
 
 pub returns-then-arg-at-lt3 : goal.returns-then-arg-at-lt3
 returns-then-arg-at-lt3 c = may
 
-pub returns-then-w-gt255 : goal.returns-then-w-gt255
-returns-then-w-gt255 c = may
-
-pub overflow_cast-arg : goal.overflow_cast-arg
-overflow_cast-arg c = omega (arith, c.type_inv.arg (c.args.at + 1))
-
-pub returns-then-arg-at-3 : goal.returns-then-arg-at-3
-returns-then-arg-at-3 c = may_not (other_second (omega arith) (omega arith) c.if-arg-at-3.true)
-
-pub returns-then-w-gt255-2 : goal.returns-then-w-gt255-2
-returns-then-w-gt255-2 c = may
-
-pub overflow_cast-result : goal.overflow_cast-result
-overflow_cast-result c = omega (arith, c.type_inv.arg (c.args.at + 2))
-
 pub returns : goal.returns
-returns c = third_told c.if-w-eq0.false (omega arith)
+returns c = may_not (other_second c.in-Some-second.is (rw c.in-Some.is refl) c.if-arg-at-3.true)
+
+pub returns-in-Some-third : goal.returns-in-Some-third
+returns-in-Some-third c = third_told (rw c.in-Some.is refl) c.in-Some-third.is
+
+pub returns-in-None : goal.returns-in-None
+returns-in-None c = may

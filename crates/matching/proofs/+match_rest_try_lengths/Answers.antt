@@ -1,71 +1,51 @@
 use Rattle.matching.proofs.Lengths.{trying_start, takes_all, trying_long, trying_level, trying_ready, trying_found, trying_on, trying_over, trying_next, trying_barred, skipped_on}
 use Rattle.foreseeing.proofs.Foreseen.{term_less}
-use Rattle.settling.proofs.Next.{left_proper, next_here}
 use Rattle.matching.proofs.Going.{going_start, going_lost, going_ends, going_over, going_left, single_here, fresh_ready, fresh-seek, going_stuck, going_on}
 use Rattle.settling.proofs.Slots.{kept_self}
+use Rattle.settling.proofs.Ends.{slotted_small}
 use native.Mathlib.Omega.{arith}
-use Rattle.elements.proofs.Places.{proper_inside}
 use Rattle.matching.proofs.+match_rest_try_lengths.Goals as goal
 
 pub match_rest-loop-here-init : goal.match_rest-loop-here-init
 match_rest-loop-here-init t c = going_start c.requires
 
-pub match_rest-pass-passed-requires : goal.match_rest-pass-passed-requires
-match_rest-pass-passed-requires t c = proper_inside (left_proper (going_left c.loop-here.invariant c.loop-here-test.true))
+pub match_rest-item_at-item-requires : goal.match_rest-item_at-item-requires
+match_rest-item_at-item-requires t c = going_left c.loop-here.invariant c.loop-here-test.true
 
-pub match_rest-slot_at-slot-requires : goal.match_rest-slot_at-slot-requires
-match_rest-slot_at-slot-requires t c =
-    ((going_left c.loop-here.invariant c.loop-here-test.true), c.pass-passed.ensures.kind_is)
-
-pub match_rest-is_fresh_e-requires : goal.match_rest-is_fresh_e-requires
-match_rest-is_fresh_e-requires t c = c.slot_at-slot.ensures.high
+pub match_rest-fresh_e-requires : goal.match_rest-fresh_e-requires
+match_rest-fresh_e-requires t c = slotted_small c.item_at-item.ensures.slotted
 
 pub match_rest-try_lengths-requires : goal.match_rest-try_lengths-requires
-match_rest-try_lengths-requires t c = (
-  omega (
-    arith,
-    (next_here (going_left c.loop-here.invariant c.loop-here-test.true) c.pass-passed.ensures c.slot_at-slot.ensures).on,
-    c.loop-here.invariant.on,
-    c.loop-here-test.true,
-  ),
-  (
-    fresh_ready c.loop-here.invariant (next_here (going_left c.loop-here.invariant c.loop-here-test.true) c.pass-passed.ensures c.slot_at-slot.ensures)
-        (rw c.if-is_fresh_e.true at c.is_fresh_e.ensures),
-    (rw c.if-is_fresh_e.true at c.is_fresh_e.ensures),
-  ),
-)
+match_rest-try_lengths-requires t c =
+    let f = rw c.in-Some.is at c.fresh_e.ensures in (
+      omega (arith, c.item_at-item.ensures.on, c.loop-here.invariant.on, c.loop-here-test.true),
+      (fresh_ready c.loop-here.invariant c.item_at-item.ensures f.0 f.1, f.1),
+    )
 
-pub match_rest-returns-then-is_fresh_e : goal.match_rest-returns-then-is_fresh_e
-match_rest-returns-then-is_fresh_e t c =
-    going_ends c.loop-here.invariant
-    (rw
-    (fresh-seek c.loop-here.invariant (next_here (going_left c.loop-here.invariant c.loop-here-test.true) c.pass-passed.ensures c.slot_at-slot.ensures)
-    (rw c.if-is_fresh_e.true at c.is_fresh_e.ensures))
-    c.try_lengths.ensures)
+pub match_rest-returns-in-Some : goal.match_rest-returns-in-Some
+match_rest-returns-in-Some t c =
+    let f = rw c.in-Some.is at c.fresh_e.ensures in
+    going_ends c.loop-here.invariant (rw (fresh-seek c.loop-here.invariant c.item_at-item.ensures f.0 f.1) c.try_lengths.ensures)
 
 pub match_rest-only_end-requires : goal.match_rest-only_end-requires
 match_rest-only_end-requires t c =
-    single_here c.loop-here.invariant (next_here (going_left c.loop-here.invariant c.loop-here-test.true) c.pass-passed.ensures c.slot_at-slot.ensures)
-    (rw c.if-is_fresh_e.false at c.is_fresh_e.ensures)
+    single_here c.loop-here.invariant c.item_at-item.ensures (rw c.in_default.is at c.fresh_e.ensures)
 
-pub match_rest-settle-known-requires : goal.match_rest-settle-known-requires
-match_rest-settle-known-requires t c =
-    record { long = c.loop-here.invariant.ready.table.long; high = c.slot_at-slot.ensures.high }
+pub match_rest-settle-settled-requires : goal.match_rest-settle-settled-requires
+match_rest-settle-settled-requires t c =
+    record { long = c.loop-here.invariant.ready.table.long; high = slotted_small c.item_at-item.ensures.slotted }
 
 pub match_rest-loop-here-smaller : goal.match_rest-loop-here-smaller
-match_rest-loop-here-smaller t c =
-    omega (arith, (next_here (going_left c.loop-here.invariant c.loop-here-test.true) c.pass-passed.ensures c.slot_at-slot.ensures).on, c.loop-here-test.true)
+match_rest-loop-here-smaller t c = omega (arith, c.item_at-item.ensures.on, c.loop-here-test.true)
 
 pub match_rest-loop-here-preserved : goal.match_rest-loop-here-preserved
 match_rest-loop-here-preserved t c =
-    going_on c.loop-here.invariant (next_here (going_left c.loop-here.invariant c.loop-here-test.true) c.pass-passed.ensures c.slot_at-slot.ensures) _
-    (rw c.in-At.is at c.only_end.ensures) c.settle-known.ensures
+    going_on c.loop-here.invariant c.item_at-item.ensures _ (rw c.in-Some-only_end.is at c.only_end.ensures) c.settle-settled.ensures
 
-pub match_rest-returns-in-Nothing : goal.match_rest-returns-in-Nothing
-match_rest-returns-in-Nothing t c =
+pub match_rest-returns-in_default-only_end : goal.match_rest-returns-in_default-only_end
+match_rest-returns-in_default-only_end t c =
     going_lost c.loop-here.invariant
-    (going_stuck c.loop-here.invariant (next_here (going_left c.loop-here.invariant c.loop-here-test.true) c.pass-passed.ensures c.slot_at-slot.ensures)
-    (rw c.in-Nothing.is at c.only_end.ensures).ways)
+    (going_stuck c.loop-here.invariant c.item_at-item.ensures (rw c.in_default-only_end.is at c.only_end.ensures).ways)
     (kept_self _ _)
 
 pub match_rest-returns : goal.match_rest-returns
@@ -95,8 +75,8 @@ try_lengths-loop-end-init t c = trying_start c.requires.0 c.requires.1
 pub try_lengths-next_end-requires : goal.try_lengths-next_end-requires
 try_lengths-next_end-requires t c = (trying_level c.loop-end.invariant, c.foresee-w.ensures.usable)
 
-pub try_lengths-returns-in_default : goal.try_lengths-returns-in_default
-try_lengths-returns-in_default t c =
+pub try_lengths-returns : goal.try_lengths-returns
+try_lengths-returns t c =
     trying_barred c.loop-end.invariant c.foresee-w.ensures (rw c.in_default.is at c.next_end.ensures)
 
 pub try_lengths-settle-known-requires : goal.try_lengths-settle-known-requires
@@ -105,27 +85,27 @@ try_lengths-settle-known-requires t c =
 
 pub try_lengths-match_rest-requires : goal.try_lengths-match_rest-requires
 try_lengths-match_rest-requires t c =
-    (omega arith, trying_ready (trying_next c.loop-end.invariant c.foresee-w.ensures (rw c.in-At.is at c.next_end.ensures)) c.settle-known.ensures)
+    (omega arith, trying_ready (trying_next c.loop-end.invariant c.foresee-w.ensures (rw c.in-Some.is at c.next_end.ensures)) c.settle-known.ensures)
 
 pub try_lengths-returns-then-match_rest : goal.try_lengths-returns-then-match_rest
 try_lengths-returns-then-match_rest t c =
-    trying_found (trying_next c.loop-end.invariant c.foresee-w.ensures (rw c.in-At.is at c.next_end.ensures)) c.settle-known.ensures
+    trying_found (trying_next c.loop-end.invariant c.foresee-w.ensures (rw c.in-Some.is at c.next_end.ensures)) c.settle-known.ensures
     (rw c.if-match_rest.true at c.match_rest.ensures)
 
 pub try_lengths-term_end-requires : goal.try_lengths-term_end-requires
 try_lengths-term_end-requires t c =
-    trying_level (trying_next c.loop-end.invariant c.foresee-w.ensures (rw c.in-At.is at c.next_end.ensures))
+    trying_level (trying_next c.loop-end.invariant c.foresee-w.ensures (rw c.in-Some.is at c.next_end.ensures))
 
 pub try_lengths-loop-end-smaller : goal.try_lengths-loop-end-smaller
 try_lengths-loop-end-smaller t c =
-    omega (arith, skipped_on (rw c.in-At.is at c.next_end.ensures), term_less (rw c.in-At-term_end.is at c.term_end.ensures))
+    omega (arith, skipped_on (rw c.in-Some.is at c.next_end.ensures), term_less (rw c.in-Some-term_end.is at c.term_end.ensures))
 
 pub try_lengths-loop-end-preserved : goal.try_lengths-loop-end-preserved
 try_lengths-loop-end-preserved t c =
-    trying_on (trying_next c.loop-end.invariant c.foresee-w.ensures (rw c.in-At.is at c.next_end.ensures)) c.settle-known.ensures _
-    (rw c.if-match_rest.false at c.match_rest.ensures) (rw c.in-At-term_end.is at c.term_end.ensures)
+    trying_on (trying_next c.loop-end.invariant c.foresee-w.ensures (rw c.in-Some.is at c.next_end.ensures)) c.settle-known.ensures _
+    (rw c.if-match_rest.false at c.match_rest.ensures) (rw c.in-Some-term_end.is at c.term_end.ensures)
 
-pub try_lengths-returns-in-Nothing : goal.try_lengths-returns-in-Nothing
-try_lengths-returns-in-Nothing t c =
-    trying_over (trying_next c.loop-end.invariant c.foresee-w.ensures (rw c.in-At.is at c.next_end.ensures)) c.settle-known.ensures
-    (rw c.if-match_rest.false at c.match_rest.ensures) (rw c.in-Nothing.is at c.term_end.ensures)
+pub try_lengths-returns-in_default-term_end : goal.try_lengths-returns-in_default-term_end
+try_lengths-returns-in_default-term_end t c =
+    trying_over (trying_next c.loop-end.invariant c.foresee-w.ensures (rw c.in-Some.is at c.next_end.ensures)) c.settle-known.ensures
+    (rw c.if-match_rest.false at c.match_rest.ensures) (rw c.in_default-term_end.is at c.term_end.ensures)

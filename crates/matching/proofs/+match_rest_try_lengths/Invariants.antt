@@ -11,7 +11,7 @@ abbrev pub decreases-try_lengths : goal.decreases-try_lengths
 decreases-try_lengths l = (length l.left.now - l.j) * 2 + 1
 
 abbrev pub invariant-match_rest-loop-here : goal.invariant-match_rest-loop-here
-invariant-match_rest-loop-here l = Going l.left l.i l.arg l.at l.initial.binds l.settled l.here l.place l.binds l.known
+invariant-match_rest-loop-here l = Going l.left l.i l.arg l.at l.initial.binds l.initial.settled l.here l.place l.binds l.settled
 
 abbrev pub decreases-match_rest-loop-here : goal.decreases-match_rest-loop-here
 decreases-match_rest-loop-here l = length l.left - l.here

@@ -1,4 +1,3 @@
-use borrow.Enum.Refused.{opened}
 use mathlib.Core.Path.{refl, sym, ◌∙◌, ap}
 use mathlib.Core.Logic.{⊎_elim}
 use native.Mathlib.Omega.{arith}
@@ -6,7 +5,7 @@ use Rattle.elements.proofs.Levels.{characters_on}
 use Rattle.elements.proofs.Places.{unread}
 use Rattle.checking_fields.specs.Answers.{check_of}
 use Rattle.checking_fields.proofs.Fields.{begun, got_on, turned, bad_turn, bad_kind, bad_cut, ended_good, ended_early, all}
-use Rattle.checking_fields.proofs.first_bad_in_field.Goals as goal
+use Rattle.checking_fields.proofs.pass_field.Goals as goal
 
 pub loop-c-init : goal.loop-c-init
 loop-c-init c = (begun _ _, refl)
@@ -17,7 +16,7 @@ shape_of-stack-in_default c = c.loop-c.invariant.1
 pub returns-in_default : goal.returns-in_default
 returns-in_default c =
     let i = c.loop-c.invariant.0 in
-    sym (ap check_of (⊎_elim (bad_kind i) (bad_cut i) (unread c.read.ensures (opened c.in_default.in_default-own.keys2) c.loop-c-test.true)))
+    sym (ap check_of (⊎_elim (bad_kind i) (bad_cut i) (unread (rw c.in_default.is at c.read.ensures) c.loop-c-test.true)))
 
 pub depth_behind-requires : goal.depth_behind-requires
 depth_behind-requires c = omega (arith, c.loop-c-test.true, c.loop-c.invariant.0.deep, c.loop-c.invariant.1, c.requires)
@@ -27,17 +26,17 @@ shape_of-stack-in_default-depth_behind c = c.depth_behind.auto.stack ∙ c.loop-
 
 pub returns-in_default-depth_behind : goal.returns-in_default-depth_behind
 returns-in_default-depth_behind c =
-    let got = rw c.in-Got.is at c.read.ensures in
+    let got = rw c.in-Ok.is at c.read.ensures in
     sym (ap check_of (bad_turn c.loop-c.invariant.0 got (rw c.in_default-depth_behind.is at c.depth_behind.ensures)))
 
 pub loop-c-smaller : goal.loop-c-smaller
-loop-c-smaller c = omega (arith, got_on (rw c.in-Got.is at c.read.ensures), characters_on c.onward-c.ensures)
+loop-c-smaller c = omega (arith, got_on (rw c.in-Ok.is at c.read.ensures), characters_on c.onward-c.ensures)
 
 pub loop-c-preserved : goal.loop-c-preserved
 loop-c-preserved c =
     let i = c.loop-c.invariant in
-    let got = rw c.in-Got.is at c.read.ensures in
-    let t = turned i.0 got (rw c.in-Depth.is at c.depth_behind.ensures) in
+    let got = rw c.in-Ok.is at c.read.ensures in
+    let t = turned i.0 got c.in-Some.ensures in
     (all (omega arith) t c.onward-c.ensures, c.depth_behind.auto.stack ∙ i.1)
 
 pub shape_of-stack-then-depth-eq0 : goal.shape_of-stack-then-depth-eq0
