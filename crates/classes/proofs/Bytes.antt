@@ -66,20 +66,3 @@ unfolding span
 same_in k (inl e) = rw e
 same_in k (inr (inl e)) = rw e
 same_in k (inr (inr e)) = rw e
-
--- no class of a byte that stands in a name
-pub outside : (k : Class) → (k ≡ Capital → ⊥) → (k ≡ Small → ⊥) → (k ≡ Typed → ⊥) → (k ≡ Digit → ⊥) → (k ≡ Dash → ⊥) → span 3 7 (number_of k) ≡ false
-unfolding span
-outside Other a b d e f = refl
-outside Blank a b d e f = refl
-outside Slash a b d e f = refl
-outside Capital a b d e f = absurd (a refl)
-outside Small a b d e f = absurd (b refl)
-outside Typed a b d e f = absurd (d refl)
-outside Digit a b d e f = absurd (e refl)
-outside Dash a b d e f = absurd (f refl)
-outside Quote a b d e f = refl
-outside Sign a b d e f = refl
-outside Call a b d e f = refl
-outside Star a b d e f = refl
-outside LineEnd a b d e f = refl

@@ -1,5 +1,6 @@
 use mathlib.Core.Path.{refl}
-use Rattle.classes.proofs.Bytes.{spelling_capital, spelling_same, spelling_dash, spelling_outside, capital_fits, same_in, outside}
+use Rattle.classes.proofs.Bytes.{spelling_capital, spelling_same, spelling_dash, spelling_outside, capital_fits, same_in}
+use Rattle.classes.proofs.Order.{no_name}
 use borrow.Author.Rules.{rules}
 use Rattle.classes.proofs.spelling_of.Goals as goal
 
@@ -18,4 +19,4 @@ returns-in-Dash c = spelling_dash c.args.b 7 c.in-Dash.ensures (search rules) re
 pub returns-in_default : goal.returns-in_default
 returns-in_default c =
     let n = c.in_default in
-    spelling_outside c.args.b _ c.class_of.ensures (search rules) (outside _ n.not-Capital n.not-Small n.not-Typed n.not-Digit n.not-Dash)
+    spelling_outside c.args.b _ c.class_of.ensures (search rules) (no_name _ n.not-Capital n.not-Small n.not-Typed n.not-Digit n.not-Dash)
