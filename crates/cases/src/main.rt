@@ -4,8 +4,7 @@
 ghost use Rattle.desk.specs.Calling.{Called};
 
 use casework::Word;
-use checking::Check;
-use checking_fields::FieldCheck;
+use checking_fields::FieldFault;
 use desk::Record;
 use machine::Answer;
 use std::io::{BufReader, BufWriter, Read, Write};
@@ -21,18 +20,18 @@ enum Sort {
     Desk,
 }
 
-fn found<W: Write>(out: &mut W, check: Check) -> io::Result<()> {
+fn found<W: Write>(out: &mut W, check: Result<(), usize>) -> io::Result<()> {
     match check {
-        Check::Good => casework::text(out, b"good\n"),
-        Check::Bad(place) => casework::decimal(out, place as u64, b"\n"),
+        Ok(()) => casework::text(out, b"good\n"),
+        Err(place) => casework::decimal(out, place as u64, b"\n"),
     }
 }
 
-fn found_in_field<W: Write>(out: &mut W, check: FieldCheck) -> io::Result<()> {
+fn found_in_field<W: Write>(out: &mut W, check: Result<(), FieldFault>) -> io::Result<()> {
     match check {
-        FieldCheck::Good => casework::text(out, b"good\n"),
-        FieldCheck::Bad(place) => casework::decimal(out, place as u64, b"\n"),
-        FieldCheck::Short => casework::text(out, b"short\n"),
+        Ok(()) => casework::text(out, b"good\n"),
+        Err(FieldFault::Bad(place)) => casework::decimal(out, place as u64, b"\n"),
+        Err(FieldFault::Short) => casework::text(out, b"short\n"),
     }
 }
 

@@ -2,9 +2,9 @@
 use mathlib.Core.Path.{◌≡◌, sym, ◌∙◌}
 use mathlib.Core.List.{List}
 use Prim.Native.Nat.{ℕ}
+use Rattle.std.specs.Prelude.{Result}
 use Rattle.meaning.specs.Goodness.{bad_program}
 use Rattle.checking.specs.Answers.{check_of}
-use Rattle.checking.specs.declared.Check.{Check}
 
-pub only_program : (p : List ℕ) {r r' : Check} → r ≡ check_of (bad_program p) → r' ≡ check_of (bad_program p) → r ≡ r'
+pub only_program : (p : List ℕ) {r r' : Result Unit ℕ} → r ≡ check_of (bad_program p) → r' ≡ check_of (bad_program p) → r ≡ r'
 only_program p h h' = h ∙ sym h'

@@ -2,7 +2,7 @@
 use mathlib.Core.Path.{◌≡◌, refl, sym, ◌∙◌}
 use mathlib.Core.Bool.{Bool, true, false, ◌||◌}
 use mathlib.Core.Logic.{◌⊎◌, inl, inr}
-use mathlib.Core.List.{List}
+use mathlib.Core.List.{List, ◌∷◌}
 use Prim.Native.Nat.{ℕ, ◌+◌, ◌≤◌, ◌<◌}
 use native.Mathlib.Omega.{arith}
 use lib.ListN.{length}
@@ -15,10 +15,11 @@ use Rattle.taking.specs.declared.State.{State}
 use Rattle.kinds.specs.Slots.{slot_of, joined}
 use Rattle.kinds.specs.Stacks.{stack}
 use Rattle.taking.specs.Standing.{part_of, next_of, stack_after, depth_after, fresh, limits_of, tests_of, Movable, moved_to, Ready, Tells, Steps}
-use Rattle.checking.specs.Passing.{HasRoom, Tried}
+use Rattle.checking.specs.Passing.{HasRoom, Tried, passes, leaves}
+use Rattle.std.specs.Prelude.{Some, None, Ok}
 use Rattle.taking.proofs.Parts.{sided_is}
 use Rattle.taking.proofs.Opens.{neither_of as neither, alone, Becomes, none_moves}
-use Rattle.taking.proofs.Tests.{passes, span_from, span_low, under, fresh_plain, limits_old, limits_left, count_side, moved_old, moved_new}
+use Rattle.taking.proofs.Tests.{passes as follows, span_from, span_low, under, fresh_plain, limits_old, limits_left, count_side, moved_old, moved_new}
 use Rattle.taking.proofs.Stepping.{accepted}
 
 pub plain : (k : ℕ) → k < 8 → span 8 10 k ≡ false
@@ -42,13 +43,13 @@ end_kind k z =
 -- ---- a step without a fault
 module _ (q : State) (k v : ℕ) (st : List ℕ) (R : Ready q st) (known : span 1 15 k ≡ true) (stood : stands (part_of q.part) k ≡ true)
     (nu : implies (span 8 10 k) (leb v 15) ≡ true) (p : paired k (stack q.depth st) ≡ true) (new : Bool) (en : new ≡ fresh q.set k v)
-    (lim : 0 ≡ first_failing 6 (limits_of q k new)) (to : ℕ) (et : k < 32 → to ≡ next_of (part_of q.part) k) where
-  good : 0 ≡ first_failing 3 (tests_of q k v (stack q.depth st) new)
+    (lim : 0 ≡ first_failing 6 (limits_of q k new)) (to : ℕ) (et : Some to ≡ next_of (part_of q.part) k) where
+  good : 0 ≡ first_failing 3 (stands (part_of q.part) k ∷ tests_of q k v (stack q.depth st) new)
   unfolding tests_of
-  good = passes 3 _ stood (passes 4 _ nu (passes 5 _ p lim))
+  good = follows 3 _ stood (follows 4 _ nu (follows 5 _ p lim))
 
   pub good_steps : (d : ℕ) (st' : List ℕ) (q' : State) → d ≡ depth_after k q.depth → st' ≡ stack_after k q.depth st → q' ≡ moved_to q k v to d new
-      → Steps q k v st (record { fault = 0; next = q' }) st'
+      → Steps q k v st (Ok q') st'
   good_steps = accepted q k v st new en 0 good refl R known to et
 
 -- ---- in a side
@@ -80,7 +81,7 @@ unfolding part_of
 stood p k (inl e) low high r = rw e (stood_left k low high (λ z. omega (arith, r (inl z))) (λ z. omega (arith, r (inr z))))
 stood p k (inr e) low high r = rw e (stood_right k low high)
 
-same-part : (p k : ℕ) → (p ≡ 3) ⊎ (p ≡ 4) → k ≤ 10 → stands (part_of p) k ≡ true → p ≡ next_of (part_of p) k
+same-part : (p k : ℕ) → (p ≡ 3) ⊎ (p ≡ 4) → k ≤ 10 → stands (part_of p) k ≡ true → Some p ≡ next_of (part_of p) k
 unfolding next_of part_of part_after
 same-part p k (inl e) high s = let w : stands left k ≡ true = rw e at s in rw (e, w, ne_eqb k 11 (omega arith))
 same-part p k (inr e) high s = let w : stands right k ≡ true = rw e at s in rw (e, w, ne_eqb k 12 (omega arith))
@@ -103,13 +104,13 @@ module _ (q : State) (H : HasRoom q) where
     -- no variable, or one that the side has
     pub old_steps : implies (span 8 10 k) (leb v 15) ≡ true → (new : Bool) → new ≡ fresh q.set k v → new ≡ false
         → (d : ℕ) (st' : List ℕ) (q' : State) → d ≡ depth_after k q.depth → st' ≡ stack_after k q.depth st → q' ≡ moved_to q k v q.part d new
-        → Steps q k v st (record { fault = 0; next = q' }) st'
-    old_steps nu new en z = good_steps q k v st R known stands_here nu p new en (limits_old q k new room z) q.part (λ h. same-part q.part k (side_part q.part H.0) high stands_here)
+        → Steps q k v st (Ok q') st'
+    old_steps nu new en z = good_steps q k v st R known stands_here nu p new en (limits_old q k new room z) q.part (same-part q.part k (side_part q.part H.0) high stands_here)
 
     pub new_steps : implies (span 8 10 k) (leb v 15) ≡ true → (new : Bool) → new ≡ fresh q.set k v → new ≡ true → (q.part ≡ 4 → ⊥) → q.number < 16
         → (d : ℕ) (st' : List ℕ) (q' : State) → d ≡ depth_after k q.depth → st' ≡ stack_after k q.depth st → q' ≡ moved_to q k v q.part d new
-        → Steps q k v st (record { fault = 0; next = q' }) st'
-    new_steps nu new en z n f = good_steps q k v st R known stands_here nu p new en (limits_left q k new room z n f) q.part (λ h. same-part q.part k (side_part q.part H.0) high stands_here)
+        → Steps q k v st (Ok q') st'
+    new_steps nu new en z n f = good_steps q k v st R known stands_here nu p new en (limits_left q k new room z n f) q.part (same-part q.part k (side_part q.part H.0) high stands_here)
 
 pub room_in : (q : State) {p n : ℕ} → q.part ≡ p → span 3 4 p ≡ true → ((m : ℕ) → (p ≡ 0 → ⊥) → under_limit (part_of p) m ≡ ltb m n) → q.count < n → HasRoom q
 room_in q {p} {n} e z f h = rw e (z, f q.count (λ y. omega (arith, span_le 3 4 p z)) ∙ lt-ltb q.count n h)
@@ -123,17 +124,20 @@ shallow q st H R =
 pub end_movable : (q : State) (k : ℕ) → ends_side k ≡ true → Movable q k 0 false
 end_movable q k z = (λ y. never (let c : true ≡ false = sym z ∙ y in cc), λ y. never (let c : false ≡ true = y in cc))
 
--- ---- what the helpers answer
-pub refused : (q : State) (k v : ℕ) (st : List ℕ) {n : ℕ} → (n ≡ 0 → ⊥) → Tried q k v st (record { fault = n; next = q }) st
-refused q k v st n = record { steps = λ z. absurd (n z); part = refl; kept = λ m. refl }
+-- ---- what is known of a passed element, and of one that is left
+pub steps_of : {q q' : State} {k v : ℕ} {st st' : List ℕ} → Tried q k v st (Some q') st' → Steps q k v st (Ok q') st'
+steps_of (passes S e) = S
 
+pub same_part : {q q' : State} {k v : ℕ} {st st' : List ℕ} → Tried q k v st (Some q') st' → q'.part ≡ q.part
+same_part (passes S e) = e
+
+pub left_stack : {q : State} {k v : ℕ} {st st' : List ℕ} → Tried q k v st None st' → st' ≡ st
+left_stack leaves = refl
+
+-- ---- what the helpers answer
 -- the state behind one element more of a side, d brackets being open
 abbrev further : State → ℕ → State
 further q d = record { part = q.part; depth = d; count = q.count + 1; set = q.set; number = q.number }
-
-within-part : (q : State) (k v : ℕ) (st : List ℕ) (q' : State) (st' : List ℕ) → q'.part ≡ q.part → Steps q k v st (record { fault = 0; next = q' }) st'
-    → Tried q k v st (record { fault = 0; next = q' }) st'
-within-part q k v st q' st' e S = record { steps = λ z. S; part = e; kept = λ n. absurd (n refl) }
 
 module _ (q : State) (H : HasRoom q) where
   counted : (k : ℕ) → k ≤ 10 → q.count + 1 ≡ count_after (part_of q.part) k q.count
@@ -142,13 +146,13 @@ module _ (q : State) (H : HasRoom q) where
   -- no variable, or one that the side has
   old_tried : (k v : ℕ) → 1 ≤ k → k ≤ 10 → ((k ≡ 6) ⊎ (k ≡ 7) → q.part ≡ 4) → (st : List ℕ) → Ready q st → paired k (stack q.depth st) ≡ true
       → implies (span 8 10 k) (leb v 15) ≡ true → {new : Bool} → new ≡ fresh q.set k v → new ≡ false
-      → (d : ℕ) (st' : List ℕ) → d ≡ depth_after k q.depth → st' ≡ stack_after k q.depth st → Tried q k v st (record { fault = 0; next = further q d }) st'
+      → (d : ℕ) (st' : List ℕ) → d ≡ depth_after k q.depth → st' ≡ stack_after k q.depth st → Tried q k v st (Some (further q d)) st'
   old_tried k v low high only st R p nu {new} en z d st' ed es =
       let m = moved_old q k v q.part d new (q.count + 1) (counted k high) H.0 z in
-      within-part q k v st (further q d) st' refl (old_steps q H k v low high only st R p nu new en z d st' _ ed es m)
+      passes (old_steps q H k v low high only st R p nu new en z d st' _ ed es m) refl
 
   pub bracket_passed : (k v : ℕ) → 4 ≤ k → k ≤ 7 → ((5 < k) × (q.part ≡ 4)) ⊎ (k ≤ 5) → (st : List ℕ) → Ready q st → paired k (stack q.depth st) ≡ true
-      → (d : ℕ) (st' : List ℕ) → d ≡ depth_after k q.depth → st' ≡ stack_after k q.depth st → Tried q k v st (record { fault = 0; next = further q d }) st'
+      → (d : ℕ) (st' : List ℕ) → d ≡ depth_after k q.depth → st' ≡ stack_after k q.depth st → Tried q k v st (Some (further q d)) st'
   bracket_passed k v low high w st R p =
       let y : span 8 10 k ≡ false = plain k (omega arith) in
       old_tried k v (omega arith) (omega arith) (only w) st R p (rw y) (fresh_plain q.set k v y) refl
@@ -176,16 +180,16 @@ module _ (q : State) (H : HasRoom q) where
     anywhere : (k ≡ 6) ⊎ (k ≡ 7) → q.part ≡ 4
     anywhere w = absurd (none_of 6 7 (omega arith, omega arith) (omega arith, omega arith) w)
 
-    old_here : new ≡ false → Tried q k v st (record { fault = 0; next = further q q.depth }) st
+    old_here : new ≡ false → Tried q k v st (Some (further q q.depth)) st
     old_here z = old_tried k v low high anywhere st R pairs nu en z q.depth st still.0 still.1
 
     new_here : new ≡ true → (q.part ≡ 4 → ⊥) → q.number < 16 → {j slots : ℕ} → j ≡ slot_of k v → slots ≡ joined q.set j
-        → Tried q k v st (record { fault = 0; next = record { part = q.part; depth = q.depth; count = q.count + 1; set = slots; number = q.number + 1 } }) st
+        → Tried q k v st (Some (record { part = q.part; depth = q.depth; count = q.count + 1; set = slots; number = q.number + 1 })) st
     new_here z n l {j} {slots} f g =
         let m = moved_new q k v q.part q.depth new (q.count + 1) (counted k high) j slots H.0 z f g in
-        within-part q k v st _ st refl (new_steps q H k v low high anywhere st R pairs nu new en z n l q.depth st _ still.0 still.1 m)
+        passes (new_steps q H k v low high anywhere st R pairs nu new en z n l q.depth st _ still.0 still.1 m) refl
 
-  pub symbol_passed : (k v : ℕ) → 1 ≤ k → k ≤ 3 → (st : List ℕ) → Ready q st → Tried q k v st (record { fault = 0; next = further q q.depth }) st
+  pub symbol_passed : (k v : ℕ) → 1 ≤ k → k ≤ 3 → (st : List ℕ) → Ready q st → Tried q k v st (Some (further q q.depth)) st
   symbol_passed k v low high st R =
       let y : span 8 10 k ≡ false = plain k (omega arith) in
       old_here k v low (omega arith) (λ a b. omega arith) st R (rw y) (fresh_plain q.set k v y) refl
@@ -195,11 +199,11 @@ module _ (q : State) (H : HasRoom q) where
     unfolding span
     numbered = rw (le-leb 8 k low, le-leb k 10 high, le-leb v 15 small)
 
-    pub old_passed : new ≡ false → Tried q k v st (record { fault = 0; next = further q q.depth }) st
+    pub old_passed : new ≡ false → Tried q k v st (Some (further q q.depth)) st
     old_passed = old_here k v (omega arith) high (λ a b. omega arith) st R numbered en
 
     pub new_passed : new ≡ true → (q.part ≡ 4 → ⊥) → q.number < 16 → {j slots : ℕ} → j ≡ slot_of k v → slots ≡ joined q.set j
-        → Tried q k v st (record { fault = 0; next = record { part = q.part; depth = q.depth; count = q.count + 1; set = slots; number = q.number + 1 } }) st
+        → Tried q k v st (Some (record { part = q.part; depth = q.depth; count = q.count + 1; set = slots; number = q.number + 1 })) st
     new_passed = new_here k v (omega arith) high (λ a b. omega arith) st R numbered en
 
 -- ---- only a variable's number is asked for

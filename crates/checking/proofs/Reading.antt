@@ -14,12 +14,13 @@ use Rattle.meaning.specs.Goodness.{Part, outside, start, left, after, State as S
 use Rattle.meaning.proofs.Truth.{never, is_true, is_false, see}
 use Rattle.meaning.proofs.Cutting.{cut_at}
 use Rattle.taking.specs.declared.State.{State}
-use Rattle.taking.specs.declared.Taken.{Taken}
+use Rattle.taking.specs.declared.Fault.{Fault}
+use Rattle.std.specs.Prelude.{Some, Ok, Err}
 use Rattle.kinds.specs.Stacks.{stack}
 use Rattle.taking.specs.Standing.{number_of as part_number, part_of, next_of, moved_to, Means, Ready, Tells, Steps}
 use Rattle.checking.specs.Passing.{Tried, Reading}
 use Rattle.taking.proofs.Parts.{in_field, field_stays}
-use Rattle.taking.proofs.Tests.{fails, passes, stands_yes, fresh_plain, limits_old}
+use Rattle.taking.proofs.Tests.{fails, passes, some_test, stands_yes, fresh_plain, limits_old}
 use Rattle.taking.proofs.Variables.{or_no, holds_none}
 use Rattle.taking.proofs.Opens.{neither_of as neither, none_moves, paired_none}
 use Rattle.taking.proofs.Stepping.{told_by, told_as}
@@ -30,7 +31,7 @@ use Rattle.elements.specs.declared.Reading.TheVariants.{Got, Unknown, Cut}
 use Rattle.elements.specs.Bytes.{kind_of, number_of, bytes_of}
 use Rattle.elements.specs.Reading.{ReadAt, got, unknown, short}
 use Rattle.elements.proofs.Places.{split_size, bare_at}
-use Rattle.checking.proofs.Passing.{end_plain, end_kind, good_steps, tells_plain}
+use Rattle.checking.proofs.Passing.{end_plain, end_kind, good_steps, steps_of, tells_plain}
 
 -- ---- what a cursor reads there
 -- the element at i
@@ -157,33 +158,33 @@ module _ {found : Option ℕ} {bs st : List ℕ} {i : ℕ} {q : State} (R : Read
       unread h _ _ (cut_at bs i h) 1 (sym (passes 1 _ z (fails 2 _ c)))
 
   -- one element more
-  module _ {y : Read} {c : Cursor} (A : ReadAt bs i (Got y c)) {k v : ℕ} (I : Tells k v (bytes_of y)) {r : Taken} {st' : List ℕ} (S : Steps q k v st r st') where
+  module _ {y : Read} {c : Cursor} (A : ReadAt bs i (Got y c)) {k v : ℕ} (I : Tells k v (bytes_of y)) where
     abbrev x : Element
     x = bytes_of y
 
-    pub stopped : (r.fault ≡ 0 → ⊥) → found ≡ some i
+    pub stopped : {st' : List ℕ} {e : Fault} → Steps q k v st (Err e) st' → found ≡ some i
     unfolding first_bad
-    stopped n = R.same ∙ rw (got_front A, ne_eqb (fault R.stage x) 0 (λ z. n (S.fault_is R.means I ∙ z)))
+    stopped {e} S = R.same ∙ rw (got_front A, ne_eqb (fault R.stage x) 0 (λ z. some_test e (S.fault_is R.means I ∙ z)))
 
-    module _ (f : r.fault ≡ 0) (l : length st' ≡ length st) where
+    module _ {st' : List ℕ} {q' : State} (S : Steps q k v st (Ok q') st') (l : length st' ≡ length st) where
       good : fault R.stage x ≡ 0
-      good = sym (S.fault_is R.means I) ∙ f
+      good = sym (S.fault_is R.means I)
 
-      next : Means r.next st' (state_after R.stage x)
-      next = S.next_is R.means I f
+      next : Means q' st' (state_after R.stage x)
+      next = S.next_is R.means I refl
 
-      field_still : eqb r.next.part 0 ≡ eqb q.part 0
+      field_still : eqb q'.part 0 ≡ eqb q.part 0
       field_still =
-          sym (in_field r.next.part) ∙ ap (λ (s : Stage). eqb (part_number (part_in s)) 0) (sym next.is) ∙ part_stays R.stage x
+          sym (in_field q'.part) ∙ ap (λ (s : Stage). eqb (part_number (part_in s)) 0) (sym next.is) ∙ part_stays R.stage x
           ∙ ap (λ (s : Stage). eqb (part_number (part_in s)) 0) R.means.is ∙ in_field q.part
 
-      pub turned : Reading found bs c.at r.next st'
+      pub turned : Reading found bs c.at q' st'
       unfolding first_bad
       turned =
           record {
             stage = state_after R.stage x;
             means = next;
-            program = let n = eqb-false r.next.part 0 (field_still ∙ ne_eqb q.part 0 (λ z. omega (arith, R.program))) in omega arith;
+            program = let n = eqb-false q'.part 0 (field_still ∙ ne_eqb q.part 0 (λ z. omega (arith, R.program))) in omega arith;
             room = omega (arith, R.room);
             inside = got_fits A;
             same = R.same ∙ rw (got_front A, good, got_long A);
@@ -204,31 +205,31 @@ module _ {found : Option ℕ} {bs st : List ℕ} {i : ℕ} {q : State} (R : Read
 -- ---- elements that surely are good
 module _ {found : Option ℕ} {bs st : List ℕ} {i : ℕ} {q : State} (R : Reading found bs i q st) where
   -- the end of a side
-  pub ended : {to : ℕ} {q' : State} {k next : ℕ} → i < length bs → k ≡ get_or bs i 0 → next ≡ i + 1 + body (get_or bs i 0) → ends_side k ≡ true → (k < 32 → to ≡ next_of (part_of q.part) k) → (to ≡ 7 → ⊥) → q.depth ≡ 0
+  pub ended : {to : ℕ} {q' : State} {k next : ℕ} → i < length bs → k ≡ get_or bs i 0 → next ≡ i + 1 + body (get_or bs i 0) → ends_side k ≡ true → Some to ≡ next_of (part_of q.part) k → q.depth ≡ 0
       → q' ≡ moved_to q k 0 to 0 false → Reading found bs next q' st
-  ended {to} {q'} {k} {next} h ek en z et n d eq =
+  ended {to} {q'} {k} {next} h ek en z et d eq =
       let b = end_kind k z in
       let y : span 8 10 k ≡ false = end_plain k b.0 in
       let kn : span 1 15 k ≡ true = b.3 in
       let (u, A, eu) = end_read bs i h k (sym ek) z in
       let I : Tells k 0 (bytes_of u) = tells_plain (told_as u (got_number A) (sym eu) refl) y in
       let B = none_moves k q.depth st (neither k 4 6 (omega arith) (omega arith)) (neither k 5 7 (omega arith) (omega arith)) in
-      let S : Steps q k 0 st (record { fault = 0; next = q' }) st = good_steps q k 0 st (ready R) kn (stands_yes q.part k to kn et n) (rw y)
+      let S : Steps q k 0 st (Ok q') st = good_steps q k 0 st (ready R) kn (stands_yes (part_of q.part) k et) (rw y)
       (sym (paired_none k q.depth st (neither k 5 7 (omega arith) (omega arith)) d) ∙ eq-eqb q.depth 0 d) false (fresh_plain q.set k 0 y) (limits_old q k false (rw z) refl) to et
       0 st q' (sym d ∙ B.0) B.1 eq in
       let m : i + 1 ≡ next = omega (arith, en, ap body ek, b.2) in
-      rw m at (turned R A I S refl refl)
+      rw m at (turned R A I S refl)
 
   -- an element that was taken, or passed
-  module _ {y : Read} {c : Cursor} (A : ReadAt bs i (Got y c)) {r : Taken} {st' : List ℕ} where
-    pub taken_bad : Steps q (kind_of y) (number_of y) st r st' → (r.fault ≡ 0 → ⊥) → found ≡ some i
+  module _ {y : Read} {c : Cursor} (A : ReadAt bs i (Got y c)) {st' : List ℕ} where
+    pub taken_bad : {e : Fault} → Steps q (kind_of y) (number_of y) st (Err e) st' → found ≡ some i
     taken_bad S = stopped R A (told_by y (got_number A)) S
 
-    pub taken_on : Steps q (kind_of y) (number_of y) st r st' → r.fault ≡ 0 → length st' ≡ length st → Reading found bs c.at r.next st'
+    pub taken_on : {q' : State} → Steps q (kind_of y) (number_of y) st (Ok q') st' → length st' ≡ length st → Reading found bs c.at q' st'
     taken_on S = turned R A (told_by y (got_number A)) S
 
-    pub passed_on : Tried q (kind_of y) (number_of y) st r st' → r.fault ≡ 0 → length st' ≡ length st → Reading found bs c.at r.next st'
-    passed_on T f = taken_on (T.steps f) f
+    pub passed_on : {q' : State} → Tried q (kind_of y) (number_of y) st (Some q') st' → length st' ≡ length st → Reading found bs c.at q' st'
+    passed_on T = taken_on (steps_of T)
 
   pub same-stack : {st' : List ℕ} → st' ≡ st → Reading found bs i q st'
   same-stack e = rw e R

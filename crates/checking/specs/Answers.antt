@@ -1,9 +1,7 @@
 -- What the check of a program answers.
 use Rattle.std.proofs.Math.Option.{Option, none, some}
-use Rattle.std.specs.Prelude.{ℕ}
-use Rattle.checking.specs.declared.Check.{Check}
-use Rattle.checking.specs.declared.Check.TheVariants.{Good, Bad}
+use Rattle.std.specs.Prelude.{ℕ, Result, Ok, Err}
 
-abbrev pub check_of : Option ℕ → Check
-check_of none = Good
-check_of (some i) = Bad i
+abbrev pub check_of : Option ℕ → Result Unit ℕ
+check_of none = Ok tt
+check_of (some i) = Err i

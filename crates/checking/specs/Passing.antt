@@ -1,21 +1,19 @@
 -- What is passed of a program, and what is found from there on.
-use Rattle.std.specs.Prelude.{◌≡◌, true, List, ℕ, ◌≤◌, ◌<◌, length, drop}
+use Rattle.std.specs.Prelude.{◌≡◌, true, List, ℕ, ◌≤◌, ◌<◌, length, drop, Option as Maybe, Some, None, Ok}
 use Rattle.std.proofs.Math.Option.{Option}
 use Rattle.meaning.specs.Elements.{elements}
 use Rattle.meaning.specs.Goodness.{State as Stage, span, under_limit, first_bad}
 use Rattle.taking.specs.declared.State.{State}
-use Rattle.taking.specs.declared.Taken.{Taken}
 use Rattle.taking.specs.Standing.{part_of, Means, Steps}
 
 -- a side of a sentence, and it may have an element more
 abbrev pub HasRoom : State → Type 0
 HasRoom q = (span 3 4 q.part ≡ true) × (under_limit (part_of q.part) q.count ≡ true)
 
--- where no fault is named, a step of the check was made within the part; else the stack is as it was
-pub record Tried (q : State) (k v : ℕ) (st : List ℕ) (r : Taken) (st' : List ℕ) : Type 0 where
-  pub steps : r.fault ≡ 0 → Steps q k v st r st'
-  pub part : r.next.part ≡ q.part
-  pub kept : (r.fault ≡ 0 → ⊥) → st' ≡ st
+-- a step of the check was made within the part, or nothing was done
+pub data Tried (q : State) (k v : ℕ) (st : List ℕ) : Maybe State → List ℕ → Type 0 where
+  passes : {q' : State} {st' : List ℕ} → Steps q k v st (Ok q') st' → q'.part ≡ q.part → Tried q k v st (Some q') st'
+  leaves : Tried q k v st None st
 
 -- i bytes of a program have been read, and the state q stands for where reading is; the first bad element is found from there on
 pub record Reading (found : Option ℕ) (bs : List ℕ) (i : ℕ) (q : State) (st : List ℕ) : Type 0 where

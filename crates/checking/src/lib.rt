@@ -1,22 +1,15 @@
 // Whether bytes are a good program, and if not, where the first bad element stands.
 #![tactic(auto)]
 
-ghost use Rattle.std.specs.Prelude.{◌≡◌, true, List, ℕ, ◌≤◌, ◌<◌, length};
+ghost use Rattle.std.specs.Prelude.{◌≡◌, true, List, ℕ, ◌≤◌, ◌<◌, length, Some, IfSome};
 ghost use Rattle.meaning.specs.Goodness.{span, bad_program};
 ghost use Rattle.elements.specs.Bytes.{kind_of, number_of};
-ghost use Rattle.taking.specs.Standing.{Leads, Ready};
+ghost use Rattle.taking.specs.Standing.{Ready};
 ghost use Rattle.checking.specs.Answers.{check_of};
 ghost use Rattle.checking.specs.Passing.{HasRoom, Tried, Onward};
 
 use elements::{Cursor, Element, Reading};
-use taking::{State, Taken};
-
-// What the check finds: nothing bad, or the place of the first bad element.
-#[derive(Clone, Copy)]
-pub enum Check {
-    Good,
-    Bad(usize),
-}
+use taking::State;
 
 // How far reading came, and where it stands there.
 #[derive(Clone, Copy)]
@@ -25,85 +18,65 @@ struct Reached {
     state: State,
 }
 
-// Takes a symbol, which can stand in every side.
-fn pass_symbol(mut state: State) -> Taken
+// Passes a symbol, which can stand in every side.
+fn pass_symbol(mut state: State) -> State
     requires { HasRoom state }
-    ensures { (st : List ℕ) (k n : ℕ) → Ready state st → 1 ≤ k → k ≤ 3 → Tried state k n st result st }
+    ensures { (st : List ℕ) (k n : ℕ) → Ready state st → 1 ≤ k → k ≤ 3 → Tried state k n st (Some result) st }
 {
     state.count += 1;
-    Taken {
-        fault: 0,
-        next: state,
-    }
+    state
 }
 
-// Takes a bracket that surely can stand in this side; a fault only says that `take` has to look.
-fn pass_bracket(mut state: State, kind: u8, stack: &mut [u8]) -> Taken
+// Passes a bracket that surely can stand in this side.
+fn pass_bracket(mut state: State, kind: u8, stack: &mut [u8]) -> Option<State>
     requires { HasRoom state × Ready state stack.old × (4 ≤ kind) × (kind ≤ 7) }
     ensures { (n : ℕ) → Tried state kind n stack.old result stack.new }
 {
-    let refused = Taken {
-        fault: 5,
-        next: state,
-    };
     if kinds::CLOSE < kind {
         if state.part != taking::RIGHT {
-            return refused;
+            return None;
         }
     }
     if !taking::is_paired(kind, state.depth, stack) {
-        return refused;
+        return None;
     }
     state.depth = taking::brackets_after(stack, state.depth, kind);
     state.count += 1;
-    Taken {
-        fault: 0,
-        next: state,
-    }
+    Some(state)
 }
 
-// Takes a variable that surely can stand in this side.
-fn pass_variable(mut state: State, kind: u8, number: u32) -> Taken
+// Passes a variable that surely can stand in this side.
+fn pass_variable(mut state: State, kind: u8, number: u32) -> Option<State>
     requires { HasRoom state × (8 ≤ kind) × (kind ≤ 10) }
     ensures { (st : List ℕ) → Ready state st → Tried state kind number st result st }
 {
-    let refused = Taken {
-        fault: 6,
-        next: state,
-    };
     if 15 < number {
-        return refused;
+        return None;
     }
     state.count += 1;
     if !taking::is_fresh(state.set, kind, number) {
-        return Taken {
-            fault: 0,
-            next: state,
-        };
+        return Some(state);
     }
     if state.part == taking::RIGHT {
-        return refused;
+        return None;
     }
     if 15 < state.number {
-        return refused;
+        return None;
     }
     state.set = kinds::with(state.set, kinds::slot(kind, number as u8));
     state.number += 1;
-    Taken {
-        fault: 0,
-        next: state,
-    }
+    Some(state)
 }
 
-// Takes an element that surely can stand in this side.
-fn pass_element(state: State, e: Element, stack: &mut [u8]) -> Taken
+// Passes an element that surely can stand in this side; where that is not sure, `take` has to look.
+fn pass_element(state: State, e: Element, stack: &mut [u8]) -> Option<State>
     requires { HasRoom state × Ready state stack.old }
     ensures { Tried state (kind_of e) (number_of e) stack.old result stack.new }
 {
     match e {
-        Element::Character(_) => pass_symbol(state),
-        Element::Name(_) => pass_symbol(state),
-        Element::Macrodigit(_) => pass_symbol(state),
+        Element::Character(_) => Some(pass_symbol(state)),
+        Element::Name(_) => Some(pass_symbol(state)),
+        Element::Macrodigit(_) => Some(pass_symbol(state)),
         Element::Open => pass_bracket(state, kinds::OPEN, stack),
         Element::Close => pass_bracket(state, kinds::CLOSE, stack),
         Element::Call(_) => pass_bracket(state, kinds::CALL, stack),
@@ -111,10 +84,7 @@ fn pass_element(state: State, e: Element, stack: &mut [u8]) -> Taken
         Element::SVariable(n) => pass_variable(state, kinds::S_VARIABLE, n),
         Element::TVariable(n) => pass_variable(state, kinds::T_VARIABLE, n),
         Element::EVariable(n) => pass_variable(state, kinds::E_VARIABLE, n),
-        _ => Taken {
-            fault: 3,
-            next: state,
-        },
+        _ => None,
     }
 }
 
@@ -130,42 +100,36 @@ fn pass_side(bytes: &[u8], from: Cursor, start: State, stack: &mut [u8]) -> Reac
         let Reading::Got(e, next) = at.read(bytes) else {
             return Reached { at, state };
         };
-        let taken = pass_element(state, e, stack);
-        if taken.fault != 0 {
+        let Some(passed) = pass_element(state, e, stack) else {
             return Reached { at, state };
-        }
-        state = taken.next;
+        };
+        state = passed;
         at = next;
     }
     Reached { at, state }
 }
 
 // Passes the end of a side, if it may end here.
-fn pass_end(bytes: &[u8], at: Cursor, state: State, moves: &[u8; 224]) -> Reached
-    requires { Leads moves.now × (state.part < 7) }
-    ensures { (at.at ≤ result.at.at) × ((st : List ℕ) → Onward bytes.now at.at state st result.at.at result.state st) }
+fn pass_end(bytes: &[u8], at: Cursor, state: State) -> Option<Reached>
+    requires { state.part < 7 }
+    ensures { IfSome result (λ r. (at.at < r.at.at) × ((st : List ℕ) → Onward bytes.now at.at state st r.at.at r.state st)) }
 {
-    let refused = Reached { at, state };
     if bytes.len() <= at.at {
-        return refused;
+        return None;
     }
     let passed = at.pass(bytes);
     let kind = passed.kind;
     if !taking::ends_side(kind) {
-        return refused;
+        return None;
     }
-    let to = taking::next_part(moves, state.part, kind);
-    if to == taking::NOWHERE {
-        return refused;
-    }
+    let to = taking::next_part(state.part, kind)?;
     if state.depth != 0 {
-        return refused;
+        return None;
     }
-    let next = passed.next;
-    Reached {
-        at: next,
+    Some(Reached {
+        at: passed.next,
         state: taking::state_after(state, kind, 0, to, 0, false),
-    }
+    })
 }
 
 // Before a sentence reading may as well be in its left side; 0E begins no sentence.
@@ -186,38 +150,28 @@ fn enter(bytes: &[u8], at: Cursor, mut state: State) -> State
 }
 
 // Passes sentences, up to the first element that is not surely good.
-fn pass_sentences(
-    bytes: &[u8],
-    from: Cursor,
-    start: State,
-    moves: &[u8; 224],
-    stack: &mut [u8],
-) -> Reached
-    requires { Leads moves.now × Ready start stack.old × (0 < start.part) × (from.at ≤ length bytes.now) }
+fn pass_sentences(bytes: &[u8], from: Cursor, start: State, stack: &mut [u8]) -> Reached
+    requires { Ready start stack.old × (0 < start.part) × (from.at ≤ length bytes.now) }
     ensures { (from.at ≤ result.at.at) × Onward bytes.now from.at start stack.old result.at.at result.state stack.new }
 {
     let mut at = from;
     let mut state = enter(bytes, from, start);
     while taking::between(taking::LEFT, taking::RIGHT, state.part) {
         let side = pass_side(bytes, at, state, stack);
-        let from = side.at;
-        let end = pass_end(bytes, from, side.state, moves);
-        let to = end.at;
-        if to.at <= from.at {
+        let Some(end) = pass_end(bytes, side.at, side.state) else {
             return side;
-        }
-        at = to;
-        state = enter(bytes, to, end.state);
+        };
+        at = end.at;
+        state = enter(bytes, at, end.state);
     }
     Reached { at, state }
 }
 
 // One pass over a program. What surely is good is passed quickly; only `take` says that a read element is bad.
-fn first_bad(program: &[u8], stack: &mut [u8]) -> Check
+fn pass_program(program: &[u8], stack: &mut [u8]) -> Result<(), usize>
     requires { 400 ≤ length stack.old }
     ensures { result ≡ check_of (bad_program program.now) }
 {
-    let moves = taking::moves();
     let mut at = Cursor { at: 0 };
     let mut state = State {
         part: taking::OUTSIDE,
@@ -227,29 +181,29 @@ fn first_bad(program: &[u8], stack: &mut [u8]) -> Check
         number: 0,
     };
     while at.at < program.len() {
-        let bad = Check::Bad(at.at);
+        let bad = Err(at.at);
         let Reading::Got(e, next) = at.read(program) else {
             return bad;
         };
-        let taken = taking::take(state, e, &moves, stack);
-        if taken.fault != 0 {
+        let Ok(taken) = taking::take(state, e, stack) else {
             return bad;
-        }
-        let passed = pass_sentences(program, next, taken.next, &moves, stack);
+        };
+        let passed = pass_sentences(program, next, taken, stack);
         at = passed.at;
         state = passed.state;
     }
     if taking::may_end(state) {
-        Check::Good
+        Ok(())
     } else {
-        Check::Bad(at.at)
+        Err(at.at)
     }
 }
 
-pub fn check_program(program: &[u8]) -> Check
+// Whether a program is good; else the place of the first bad element.
+pub fn check_program(program: &[u8]) -> Result<(), usize>
     ensures { result ≡ check_of (bad_program program.now) }
 {
     // a right side has at most 400 elements
     let mut stack = [0u8; 400];
-    first_bad(program, &mut stack)
+    pass_program(program, &mut stack)
 }

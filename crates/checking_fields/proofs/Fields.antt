@@ -19,7 +19,7 @@ use Rattle.elements.proofs.Places.{split_size}
 use Rattle.elements.proofs.Digits.{one_byte}
 use Rattle.checking_fields.proofs.Turns.{character_good}
 use Rattle.checking_fields.specs.Fields.{within, bad_from, Turned, good, bad}
-use Rattle.checking_fields.specs.declared.Behind.TheVariants.{Depth, Fault}
+use Rattle.std.specs.Prelude.{Some, None}
 
 -- a field has no limits, so the elements before do not count
 uncounted : (n m i : ℕ) (opens : List ℕ) (es : List Bytes) → first_bad (at field opens n []) i es ≡ first_bad (at field opens m []) i es
@@ -51,11 +51,11 @@ module _ {f st : List ℕ} {i d : ℕ} (F : InField f st i d) where
     unfolding bad_from first_bad state_after part_after variables_after
     onward z = rw (p.front, z, next_is) (uncounted (count_after field (kind e) 0) 0 j (opens_after (kind e) (stack d st)) (elements (drop j f)))
 
-  pub turned : {x : Element} {c : Cursor} {e : ℕ} {new : List ℕ} → ReadAt f i (Got x c) → Turned x st d (Depth e) new → InField f new c.at e
+  pub turned : {x : Element} {c : Cursor} {e : ℕ} {new : List ℕ} → ReadAt f i (Got x c) → Turned x st d (Some e) new → InField f new c.at e
   turned (got n l p) (good z o m) = record { inside = p.fits; deep = omega (arith, F.deep); same = rw o (F.same ∙ onward p z) }
 
   -- at one that is bad
-  pub bad_turn : {x : Element} {c : Cursor} {new : List ℕ} → ReadAt f i (Got x c) → Turned x st d Fault new → bad_field f ≡ some i
+  pub bad_turn : {x : Element} {c : Cursor} {new : List ℕ} → ReadAt f i (Got x c) → Turned x st d None new → bad_field f ≡ some i
   unfolding bad_from first_bad
   bad_turn (got n l p) (bad z) = F.same ∙ rw (p.front, ne_eqb _ 0 z)
 

@@ -15,8 +15,7 @@ use Rattle.elements.specs.contracts.Element.{the_type}
 use Rattle.elements.specs.declared.Element.TheVariants.{Character, Name, Macrodigit, Open, Close, Call, Return, SVariable, TVariable, EVariable, Equals, SentenceEnd, Header, FunctionEnd, ProgramEnd}
 use Rattle.elements.specs.Bytes.{digits}
 use Rattle.checking_fields.specs.Fields.{within, Closed, closes, stays, Turned, good, bad}
-use Rattle.checking_fields.specs.declared.Behind.{Behind}
-use Rattle.checking_fields.specs.declared.Behind.TheVariants.{Depth, Fault}
+use Rattle.std.specs.Prelude.{Option as Maybe, Some, None}
 
 -- the places of the variants that cannot stand in a field
 abbrev others : List ℕ
@@ -28,37 +27,37 @@ unfolding fault tests first_failing span stands paired ends_side under_limit is_
 character_good opens v = refl
 
 module _ {st : List ℕ} {d : ℕ} where
-  pub turn_character : (n : ℕ) → Turned (Character n) st d (Depth d) st
+  pub turn_character : (n : ℕ) → Turned (Character n) st d (Some d) st
   unfolding body digits opens_after
   turn_character n = good (character_good _ _) refl (omega arith)
 
-  pub turn_name : (n : ℕ) → Turned (Name n) st d (Depth d) st
+  pub turn_name : (n : ℕ) → Turned (Name n) st d (Some d) st
   unfolding fault tests first_failing span stands paired ends_side under_limit is_variable body digits opens_after
   turn_name n = good refl refl (omega arith)
 
-  pub turn_macrodigit : (n : ℕ) → Turned (Macrodigit n) st d (Depth d) st
+  pub turn_macrodigit : (n : ℕ) → Turned (Macrodigit n) st d (Some d) st
   unfolding fault tests first_failing span stands paired ends_side under_limit is_variable body digits opens_after
   turn_macrodigit n = good refl refl (omega arith)
 
-  pub turn_open : d < length st → Turned Open st d (Depth (d + 1)) (set st d 4)
+  pub turn_open : d < length st → Turned Open st d (Some (d + 1)) (set st d 4)
   unfolding fault tests first_failing span stands paired ends_side under_limit is_variable body digits opens_after
   turn_open h = good refl (stack_push d 4 st h) (omega arith)
 
-  pub turn_call : (n : ℕ) → d < length st → Turned (Call n) st d (Depth (d + 1)) (set st d 6)
+  pub turn_call : (n : ℕ) → d < length st → Turned (Call n) st d (Some (d + 1)) (set st d 6)
   unfolding fault tests first_failing span stands paired ends_side under_limit is_variable body digits opens_after
   turn_call n h = good refl (stack_push d 6 st h) (omega arith)
 
-  pub turn_close : {r : Behind} → Closed st d 4 r → Turned Close st d r st
+  pub turn_close : {r : Maybe ℕ} → Closed st d 4 r → Turned Close st d r st
   unfolding fault tests first_failing span stands paired ends_side under_limit is_variable body digits opens_after
   turn_close (closes e) = good (rw e) (stack_pop d st) (omega arith)
   turn_close (stays n) = bad (λ z. let w = rw (ne_eqb _ 4 n) at z in omega arith)
 
-  pub turn_return : {r : Behind} → Closed st d 6 r → Turned Return st d r st
+  pub turn_return : {r : Maybe ℕ} → Closed st d 6 r → Turned Return st d r st
   unfolding fault tests first_failing span stands paired ends_side under_limit is_variable body digits opens_after
   turn_return (closes e) = good (rw e) (stack_pop d st) (omega arith)
   turn_return (stays n) = bad (λ z. let w = rw (ne_eqb _ 6 n) at z in omega arith)
 
-  pub turn_other : (x : Element) → OneOf others (tag_of the_type x) → Turned x st d Fault st
+  pub turn_other : (x : Element) → OneOf others (tag_of the_type x) → Turned x st d None st
   unfolding fault tests first_failing span stands body digits
   turn_other (Character n) k = absurd (miss others 0 tt k)
   turn_other (Name n) k = absurd (miss others 1 tt k)

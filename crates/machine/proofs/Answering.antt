@@ -15,10 +15,8 @@ use Rattle.meaning.proofs.Truth.{never}
 use Rattle.meaning.proofs.Answers.{sizes_used}
 use Rattle.checking.specs.Answers.{check_of}
 use Rattle.checking_fields.specs.Answers.{check_of as field_of, field_check, scratch_after}
-use Rattle.checking_fields.specs.declared.FieldCheck.{FieldCheck}
-use Rattle.checking_fields.specs.declared.FieldCheck.TheVariants.{Good as FieldGood, Bad as FieldBad, Short}
-use Rattle.checking.specs.declared.Check.{Check}
-use Rattle.checking.specs.declared.Check.TheVariants.{Good, Bad}
+use Rattle.checking_fields.specs.declared.FieldFault.TheVariants.{Bad, Short}
+use Rattle.std.specs.Prelude.{Ok, Err}
 use Rattle.running.specs.Running.{Checked}
 use Rattle.running.proofs.Start.{scratch_size}
 use Rattle.running.proofs.End.{cleared}
@@ -26,25 +24,25 @@ use Rattle.machine.specs.Codes.{Sized}
 
 -- WHAT A CHECK SAYS
 
-pub check_good : {r : Check} (o : Option ℕ) → r ≡ check_of o → r ≡ Good → o ≡ none
-check_good none h q = refl
-check_good (some i) h q = never (cc)
+pub check_good : {u : Unit} (o : Option ℕ) → Ok u ≡ check_of o → o ≡ none
+check_good none h = refl
+check_good (some i) h = never (cc)
 
-pub check_bad : {r : Check} {i : ℕ} (o : Option ℕ) → r ≡ check_of o → r ≡ Bad i → o ≡ some i
-check_bad none h q = never (cc)
-check_bad (some j) h q = cc
+pub check_bad : {i : ℕ} (o : Option ℕ) → Err i ≡ check_of o → o ≡ some i
+check_bad none h = never (cc)
+check_bad (some j) h = cc
 
-pub field_good : {r : FieldCheck} (o : Option ℕ) → r ≡ field_of o → r ≡ FieldGood → o ≡ none
-field_good none h q = refl
-field_good (some i) h q = never (cc)
+pub field_good : {u : Unit} (o : Option ℕ) → Ok u ≡ field_of o → o ≡ none
+field_good none h = refl
+field_good (some i) h = never (cc)
 
-pub field_bad : {r : FieldCheck} {i : ℕ} (o : Option ℕ) → r ≡ field_of o → r ≡ FieldBad i → o ≡ some i
-field_bad none h q = never (cc)
-field_bad (some j) h q = cc
+pub field_bad : {i : ℕ} (o : Option ℕ) → Err (Bad i) ≡ field_of o → o ≡ some i
+field_bad none h = never (cc)
+field_bad (some j) h = cc
 
-pub never_short : {r : FieldCheck} (o : Option ℕ) → r ≡ field_of o → r ≡ Short → ⊥
-never_short none h q = never (cc)
-never_short (some i) h q = never (cc)
+pub never_short : (o : Option ℕ) → Err Short ≡ field_of o → ⊥
+never_short none h = never (cc)
+never_short (some i) h = never (cc)
 
 -- what a refusal holds
 abbrev Refused : ℕ → ℕ → ℕ → ℕ → ℕ → ℕ → ℕ → Type 0

@@ -6,8 +6,7 @@ ghost use Rattle.meaning.specs.Machine.{sizes, machine, answer};
 ghost use Rattle.running.specs.Running.{Checked};
 ghost use Rattle.machine.specs.Codes.{code_of, Sized};
 
-use checking::Check;
-use checking_fields::FieldCheck;
+use checking_fields::FieldFault;
 
 // Why a run came to its end.
 #[derive(Clone, Copy)]
@@ -120,10 +119,10 @@ fn run_field(
     ensures { machine program.now field.old used scratch.old budget ≡ answer (code_of result.code) result.steps result.used result.place field.new scratch.new }
 {
     match checking_fields::check_field(&field[0..used], scratch) {
-        FieldCheck::Good => run_checked(program, field, used, scratch, budget),
-        FieldCheck::Bad(place) => refusal(Code::BadField, used, place),
+        Ok(()) => run_checked(program, field, used, scratch, budget),
+        Err(FieldFault::Bad(place)) => refusal(Code::BadField, used, place),
         // the scratch is as long as the field buffer
-        FieldCheck::Short => refusal(Code::BadSizes, used, 0),
+        Err(FieldFault::Short) => refusal(Code::BadSizes, used, 0),
     }
 }
 
@@ -135,8 +134,8 @@ pub fn run(program: &[u8], field: &mut [u8], used: usize, scratch: &mut [u8], bu
         return refusal(Code::BadSizes, used, 0);
     }
     match checking::check_program(program) {
-        Check::Good => run_field(program, field, used, scratch, budget),
-        Check::Bad(place) => {
+        Ok(()) => run_field(program, field, used, scratch, budget),
+        Err(place) => {
             moving::clear(scratch, 0, scratch.len());
             refusal(Code::BadProgram, used, place)
         }

@@ -8,7 +8,7 @@ use native.Mathlib.Numerals.{add-one}
 use lib.ListN.{length, get_or, drop, set, length-set}
 use lib.Seq.{drop-cons, drop-drop}
 use lib.Dec.{eqb, ltb}
-use borrow.Author.Tests.{le-leb, eq-eqb, ne_eqb, eqb-true, eqb-false}
+use borrow.Author.Tests.{eq-eqb, ne_eqb, eqb-true, eqb-false}
 use Rattle.meaning.proofs.Truth.{is_true, is_false, see}
 use Rattle.text.specs.Classes.{ends_line}
 use Rattle.text.specs.Tokens.{Quoted, unclosed, closed, longer, before, quoted}
@@ -20,7 +20,7 @@ use Rattle.elements.specs.declared.Element.TheVariants.{Character}
 use Rattle.elements.specs.Bytes.{digits}
 use Rattle.taking.specs.Standing.{part_of}
 use Rattle.checking.specs.Passing.{HasRoom}
-use Rattle.checking.proofs.Passing.{room_in, symbol_passed}
+use Rattle.checking.proofs.Passing.{room_in, steps_of, symbol_passed}
 use Rattle.putting.specs.declared.Reader.{Reader}
 use Rattle.putting.specs.Putting.{phase_next, kept_count, Written, Able, Led, Barred, Going, past_character, Closes, elements_at, further_by, Runs}
 use Rattle.putting.proofs.Putting.{ready_of, put_made, led, going_able, going_on, going_bad, going_over}
@@ -197,11 +197,11 @@ module _ (q : Reader) {limit : ℕ} (side : span 3 4 q.state.part ≡ true) (is-
       → Led (put_all (element 1 b ∷ [])) (further_by q k) st buf (further_by q (k + 1)) st (set (set buf (q.len + 2 * k) 1) (q.len + 2 * k + 1) b)
   unfolding further_by phase_next kept_count
   plain_led k b {st} {buf} a small h l =
-      let steps = (symbol_passed (further_by q k).state (has_room k h) 1 b (omega arith) (omega arith) st (ready_of a.stands)).steps refl in
-      let made = put_made (further_by q k) (Character b) st buf _ st steps (unfold body in small) {p = q.phase} {m = q.variables} {len' = q.len + 2 * k + 2} refl refl refl refl refl refl (character_written buf (q.len + 2 * k) b small l) (lengths buf (q.len + 2 * k) b) in
+      let steps = steps_of (symbol_passed (further_by q k).state (has_room k h) 1 b (omega arith) (omega arith) st (ready_of a.stands)) in
+      let made = put_made (further_by q k) (Character b) st buf st (unfold body in small) {m = q.variables} {len' = q.len + 2 * k + 2} {p = q.phase} steps refl refl refl refl refl (character_written buf (q.len + 2 * k) b small l) (lengths buf (q.len + 2 * k) b) in
       let count : q.state.count + k + 1 ≡ q.state.count + (k + 1) = omega arith in
       let bytes : q.len + 2 * k + 2 ≡ q.len + 2 * (k + 1) = omega arith in
-      rw (← count, ← bytes) (led made refl)
+      rw (← count, ← bytes) (led made)
 
   -- k characters were put behind i, and the next is no quote
   pub plain_more : {s : List ℕ} {quote last i : ℕ} {buf₀ buf : List ℕ} (k : ℕ) → Runs s quote last i q buf₀ (i + k) (further_by q k) buf → i + k < last → (get_or s (i + k) 0 ≡ quote → ⊥) → get_or s (i + k) 0 < 256
@@ -232,7 +232,3 @@ pub runs_from : {s : List ℕ} {quote last i : ℕ} (q : Reader) (buf : List ℕ
 runs_from {s} {quote} {last} {i} q buf h =
     let z : i + 0 ≡ i = omega arith in
     rw (z, ← further_none q) (runs_none q buf h)
-
-pub in_side : (p : ℕ) → 3 ≤ p → p ≤ 4 → span 3 4 p ≡ true
-unfolding span
-in_side p h k = rw (le-leb 3 p h, le-leb p 4 k)

@@ -25,12 +25,13 @@ use Rattle.tokens.specs.Lexemes.{characters_of, token_of, Proper}
 use Rattle.putting.proofs.Putting.{going_from, going_on, going_bad, going_over}
 use Rattle.putting.proofs.Characters.{shut_some, quoted_inside}
 use Rattle.putting.specs.declared.Reader.{Reader}
-use Rattle.putting.specs.declared.Next.{Next}
-use Rattle.putting.specs.declared.Next.TheVariants.{Bad}
-use Rattle.putting.specs.Putting.{phase_of, Stands, Led, Onward, leads, stops, Closes, Fits, Entered, braced, signing, making_within, making_header, phased}
+use Rattle.putting.specs.declared.Phase.{Phase}
+use Rattle.putting.specs.declared.Phase.TheVariants as P
+use Rattle.std.specs.Prelude.{Option as Maybe, Some, None}
+use Rattle.putting.specs.Putting.{phase_of, Stands, Led, Onward, leads, stops, Closes, Fits, Entered, braced, signing, making_within, making_header}
 
 -- steps that are one on what the code stands for
-pub onward_as : {f g : Told → Option Told} {q : Reader} {st buf : List ℕ} {n : Next} {st' buf' : List ℕ}
+pub onward_as : {f g : Told → Option Told} {q : Reader} {st buf : List ℕ} {n : Maybe Reader} {st' buf' : List ℕ}
     → ((Ns Vs : ℕ → List Key) (r : Told) → Stands Ns Vs q st buf r → g r ≡ f r) → Onward f q st buf n st' buf' → Onward g q st buf n st' buf'
 onward_as e (leads l) =
     leads (record {
@@ -71,7 +72,7 @@ module _ {q : Reader} {st buf : List ℕ} where
   brace_right e Ns Vs r s = rw (s.is, part_is s, e)
 
 -- one element, then another
-pub brace_then : {q q' : Reader} {st buf st' buf' st'' buf'' : List ℕ} {n : Next} (e f : Element) → Led (put_all (e ∷ [])) q st buf q' st' buf'
+pub brace_then : {q q' : Reader} {st buf st' buf' st'' buf'' : List ℕ} {n : Maybe Reader} (e f : Element) → Led (put_all (e ∷ [])) q st buf q' st' buf'
     → Onward (put_all (f ∷ [])) q' st' buf' n st'' buf'' → Onward (put_all (e ∷ f ∷ [])) q st buf n st'' buf''
 brace_then e f l (leads m) = leads (going_over (going_on (going_on (going_from _ _ _ _) l) m))
 brace_then e f l (stops b) = stops (going_bad (going_on (going_from _ _ _ _) l) b)
@@ -88,7 +89,7 @@ module _ {q : Reader} {st buf : List ℕ} (c : ℕ) where
   unfolding put_some signed
   sign_brace e Ns Vs r s = rw (s.is, e)
 
-  pub sign_none : (c ≡ 40 → ⊥) → (c ≡ 41 → ⊥) → (c ≡ 62 → ⊥) → (c ≡ 61 → ⊥) → (c ≡ 59 → ⊥) → (c ≡ 125 → ⊥) → {st' buf' : List ℕ} → Onward (signing c) q st buf Bad st' buf'
+  pub sign_none : (c ≡ 40 → ⊥) → (c ≡ 41 → ⊥) → (c ≡ 62 → ⊥) → (c ≡ 61 → ⊥) → (c ≡ 59 → ⊥) → (c ≡ 125 → ⊥) → {st' buf' : List ℕ} → Onward (signing c) q st buf None st' buf'
   unfolding put_some signed
   sign_none g h i j k l = stops (λ Ns Vs z r s. rw (s.is, ne_eqb c 40 g, ne_eqb c 41 h, ne_eqb c 62 i, ne_eqb c 61 j, ne_eqb c 59 k, ne_eqb c 125 l))
 
@@ -100,7 +101,7 @@ module _ {q : Reader} {st buf : List ℕ} (t : Meaning) (n : ℕ) where
   unfolding put_some
   makes es h Ns Vs r s = rw (s.is, h (part_of s.stage))
 
-  pub makes_none : ((p : Part) → within p t n ≡ none) → {st' buf' : List ℕ} → Onward (making_within t n) q st buf Bad st' buf'
+  pub makes_none : ((p : Part) → within p t n ≡ none) → {st' buf' : List ℕ} → Onward (making_within t n) q st buf None st' buf'
   unfolding put_some
   makes_none h = stops (λ Ns Vs z r s. rw (s.is, h (part_of s.stage)))
 
@@ -108,7 +109,7 @@ module _ {q : Reader} {st buf : List ℕ} (t : Meaning) (n : ℕ) where
   unfolding put_some
   heads h Ns Vs r s = rw h
 
-  pub heads_none : heading t n ≡ none → {st' buf' : List ℕ} → Onward (making_header t n) q st buf Bad st' buf'
+  pub heads_none : heading t n ≡ none → {st' buf' : List ℕ} → Onward (making_header t n) q st buf None st' buf'
   unfolding put_some
   heads_none h = stops (λ Ns Vs z r s. rw h)
 
@@ -189,14 +190,17 @@ closes s at end l h p =
 
 -- ENTERING
 
+-- the phase alone changes
+abbrev in_phase : Reader → Phase → Reader
+in_phase q p = record { phase = p; names = q.names; variables = q.variables; state = q.state; len = q.len }
+
 module _ {q : Reader} {st buf : List ℕ} (t : Meaning) (n : ℕ) where
-  pub enter_inside : q.phase ≡ 4 → (Ns Vs : ℕ → List Key) (r : Told) → Stands Ns Vs q st buf r → entering t n r ≡ making_within t n r
-  unfolding phase_of entering
+  pub enter_inside : q.phase ≡ P.Inside → (Ns Vs : ℕ → List Key) (r : Told) → Stands Ns Vs q st buf r → entering t n r ≡ making_within t n r
+  unfolding entering
   enter_inside e Ns Vs r s = rw (s.is, e)
 
   -- another phase
-  enter_phase : (p : ℕ) → ((Ns Vs : ℕ → List Key) (r : Told) (s : Stands Ns Vs q st buf r) → entering t n r ≡ some (reader (phase_of p) (Ns q.names) (Vs q.variables) s.stage s.out)) → Onward (entering t n) q st buf (phased q p) st buf
-  unfolding phased
+  enter_phase : (p : Phase) → ((Ns Vs : ℕ → List Key) (r : Told) (s : Stands Ns Vs q st buf r) → entering t n r ≡ some (reader (phase_of p) (Ns q.names) (Vs q.variables) s.stage s.out)) → Onward (entering t n) q st buf (Some (in_phase q p)) st buf
   enter_phase p e =
       leads (record {
         after = λ Ns Vs z r s.
@@ -209,26 +213,29 @@ module _ {q : Reader} {st buf : List ℕ} (t : Meaning) (n : ℕ) where
         variables = inl refl;
       })
 
-  pub enter_open : q.phase ≡ 3 → is_sign 123 t ≡ true → Onward (entering t n) q st buf (phased q 4) st buf
-  unfolding phase_of entering
-  enter_open e h = enter_phase 4 (λ Ns Vs r s. rw (s.is, e, h))
+  pub enter_open : q.phase ≡ P.Named → is_sign 123 t ≡ true → Onward (entering t n) q st buf (Some (in_phase q P.Inside)) st buf
+  unfolding entering
+  enter_open e h = enter_phase P.Inside (λ Ns Vs r s. rw (s.is, e, h))
 
-  pub enter_shut : q.phase ≡ 3 → is_sign 123 t ≡ false → {st' buf' : List ℕ} → Onward (entering t n) q st buf Bad st' buf'
-  unfolding phase_of entering
+  pub enter_shut : q.phase ≡ P.Named → is_sign 123 t ≡ false → {st' buf' : List ℕ} → Onward (entering t n) q st buf None st' buf'
+  unfolding entering
   enter_shut e h = stops (λ Ns Vs z r s. rw (s.is, e, h))
 
-  pub enter-part : q.phase ≡ 1 → is_sign 59 t ≡ true → Onward (entering t n) q st buf (phased q 2) st buf
-  unfolding phase_of entering
-  enter-part e h = enter_phase 2 (λ Ns Vs r s. rw (s.is, e, h))
+  pub enter-part : q.phase ≡ P.Between → is_sign 59 t ≡ true → Onward (entering t n) q st buf (Some (in_phase q P.Owed)) st buf
+  unfolding entering
+  enter-part e h = enter_phase P.Owed (λ Ns Vs r s. rw (s.is, e, h))
 
-  pub enter_between : q.phase ≡ 1 → is_sign 59 t ≡ false → (Ns Vs : ℕ → List Key) (r : Told) → Stands Ns Vs q st buf r → entering t n r ≡ making_header t n r
-  unfolding phase_of entering
+  pub enter_between : q.phase ≡ P.Between → is_sign 59 t ≡ false → (Ns Vs : ℕ → List Key) (r : Told) → Stands Ns Vs q st buf r → entering t n r ≡ making_header t n r
+  unfolding entering
   enter_between e h Ns Vs r s = rw (s.is, e, h)
 
-  pub enter_header : (q.phase ≡ 4 → ⊥) → (q.phase ≡ 3 → ⊥) → (q.phase ≡ 1 → ⊥) → (Ns Vs : ℕ → List Key) (r : Told) → Stands Ns Vs q st buf r → entering t n r ≡ making_header t n r
-  unfolding phase_of entering
-  enter_header f g h Ns Vs r s =
-      elim (see (eqb q.phase 2)) [
-        | is_true e ↦ rw (s.is, ne_eqb q.phase 1 h, e)
-        | is_false e ↦ rw (s.is, ne_eqb q.phase 1 h, e, ne_eqb q.phase 3 g, ne_eqb q.phase 4 f)
-      ]
+  pub enter_header : (q.phase ≡ P.Inside → ⊥) → (q.phase ≡ P.Named → ⊥) → (q.phase ≡ P.Between → ⊥) → (Ns Vs : ℕ → List Key) (r : Told) → Stands Ns Vs q st buf r → entering t n r ≡ making_header t n r
+  unfolding entering
+  enter_header f g h Ns Vs r s = go q.phase refl
+    where
+      go : (p : Phase) → q.phase ≡ p → entering t n r ≡ making_header t n r
+      go P.Free e = rw (s.is, e)
+      go P.Between e = absurd (h e)
+      go P.Owed e = rw (s.is, e)
+      go P.Named e = absurd (g e)
+      go P.Inside e = absurd (f e)

@@ -14,16 +14,19 @@ use Rattle.meaning.specs.Goodness.{State as Stage, Part, at, fault, state_after}
 use Rattle.meaning.proofs.Truth.{is_true, is_false, see}
 use Rattle.elements.specs.declared.Element.{Element as Read}
 use Rattle.elements.specs.Bytes.{kind_of, number_of, digits, bytes_of}
-use Rattle.taking.specs.declared.Taken.{Taken}
+use Rattle.taking.specs.declared.State.{State}
+use Rattle.taking.specs.declared.Fault.{Fault}
 use Rattle.taking.specs.Standing.{number_of as part_number, Means, Ready, Steps, Tells}
 use Rattle.taking.proofs.Parts.{in_field, field_stays}
+use Rattle.taking.proofs.Tests.{some_test}
 use Rattle.taking.proofs.Stepping.{told_by}
 use Rattle.text.specs.Numbering.{Key}
-use Rattle.text.specs.Reading.{digits as digits_of, element, Phase, Reader as Told, reader, kept, phase_after, put_all}
+use Rattle.text.specs.Reading.{digits as digits_of, element, Phase as Meant, Reader as Told, reader, kept, phase_after, put_all}
 use Rattle.text.proofs.Kept.{put_yes, put_no}
 use Rattle.putting.specs.declared.Reader.{Reader}
-use Rattle.putting.specs.declared.Next.{Next}
-use Rattle.putting.specs.declared.Next.TheVariants.{Good, Bad}
+use Rattle.putting.specs.declared.Phase.{Phase}
+use Rattle.std.specs.Prelude.{Some, None, is_some, Result, Ok, Err}
+use Rattle.std.specs.Result.{result_ok}
 use Rattle.putting.specs.Putting.{phase_of, phase_next, kept_count, Written, Stands, Able, After, Led, Barred, Onward, leads, stops, Going}
 use Rattle.putting.proofs.Writing.{filled_more, join_more}
 
@@ -47,8 +50,8 @@ part_stays : (s : Stage) (x : Element) → eqb (part_number (part_in (state_afte
 unfolding state_after
 part_stays (at p opens n vs) x = field_stays p (kind x)
 
-phase_is : (k n p : ℕ) → phase_after (element k n) (phase_of p) ≡ phase_of (phase_next k p)
-unfolding phase_after phase_next element phase_of
+phase_is : (k n : ℕ) (p : Phase) → phase_after (element k n) (phase_of p) ≡ phase_of (phase_next k p)
+unfolding phase_after phase_next element
 phase_is k n p =
     elim (see (eqb k 13)) [
       | is_true h ↦ rw h
@@ -71,31 +74,31 @@ count_either k m =
       | is_false h ↦ elim (see (eqb k 12)) [ is_true g ↦ inr (rw (h, g)) | is_false g ↦ inl (rw (h, g)) ]
     ]
 
-module _ (q : Reader) (y : Read) (st buf : List ℕ) (t : Taken) (st' : List ℕ) (S : Steps q.state (kind_of y) (number_of y) st t st') (fits : number_of y < 256 ^ body (kind_of y)) where
+module _ (q : Reader) (y : Read) (st buf st' : List ℕ) (fits : number_of y < 256 ^ body (kind_of y)) where
   abbrev x : Element
   x = element (kind_of y) (number_of y)
 
   tells : Tells (kind_of y) (number_of y) x
   tells = rw (← bytes_are y) (told_by y fits)
 
-  pub put_bad : (t.fault ≡ 0 → ⊥) → (buf' : List ℕ) → Onward (put_all (x ∷ [])) q st buf Bad st' buf'
-  put_bad n buf' = stops (λ Ns Vs z r s.
-      ap (put_all (x ∷ [])) s.is ∙ put_no x [] _ _ _ s.stage s.out (ne_eqb (fault s.stage x) 0 (λ z. n (S.fault_is s.means tells ∙ z))))
+  pub put_bad : {e : Fault} → Steps q.state (kind_of y) (number_of y) st (Err e) st' → (buf' : List ℕ) → Onward (put_all (x ∷ [])) q st buf None st' buf'
+  put_bad {e} S buf' = stops (λ Ns Vs z r s.
+      ap (put_all (x ∷ [])) s.is ∙ put_no x [] _ _ _ s.stage s.out (ne_eqb (fault s.stage x) 0 (λ z. some_test e (S.fault_is s.means tells ∙ z))))
 
-  module _ (f : t.fault ≡ 0) (l : length st' ≡ length st) (len' : ℕ) (buf' : List ℕ) (w : Written buf q.len (kind_of y ∷ digits (body (kind_of y)) (number_of y)) len' buf') (m : length buf' ≡ length buf) where
+  module _ {t : State} (S : Steps q.state (kind_of y) (number_of y) st (Ok t) st') (l : length st' ≡ length st) (len' : ℕ) (buf' : List ℕ) (w : Written buf q.len (kind_of y ∷ digits (body (kind_of y)) (number_of y)) len' buf') (m : length buf' ≡ length buf) where
     abbrev q' : Reader
-    q' = record { phase = phase_next (kind_of y) q.phase; names = q.names; variables = kept_count (kind_of y) q.variables; state = t.next; len = len' }
+    q' = record { phase = phase_next (kind_of y) q.phase; names = q.names; variables = kept_count (kind_of y) q.variables; state = t; len = len' }
 
     module _ (Ns Vs : ℕ → List Key) (z : Vs 0 ≡ []) (r : Told) (s : Stands Ns Vs q st buf r) where
       good : fault s.stage x ≡ 0
-      good = sym (S.fault_is s.means tells) ∙ f
+      good = sym (S.fault_is s.means tells)
 
-      next : Means t.next st' (state_after s.stage x)
-      next = S.next_is s.means tells f
+      next : Means t st' (state_after s.stage x)
+      next = S.next_is s.means tells refl
 
-      field_still : eqb t.next.part 0 ≡ eqb q.state.part 0
+      field_still : eqb t.part 0 ≡ eqb q.state.part 0
       field_still =
-          sym (in_field t.next.part) ∙ ap (λ (u : Stage). eqb (part_number (part_in u)) 0) (sym next.is) ∙ part_stays s.stage x
+          sym (in_field t.part) ∙ ap (λ (u : Stage). eqb (part_number (part_in u)) 0) (sym next.is) ∙ part_stays s.stage x
           ∙ ap (λ (u : Stage). eqb (part_number (part_in u)) 0) s.means.is ∙ in_field q.state.part
 
       abbrev told : Told
@@ -113,21 +116,34 @@ module _ (q : Reader) (y : Read) (st buf : List ℕ) (t : Taken) (st' : List ℕ
                   out = s.out ++ (x ∷ []);
                   is = rw (phase_is (kind_of y) (number_of y) q.phase, kept_is Vs z (kind_of y) (number_of y) q.variables);
                   means = next;
-                  program = (let n = eqb-false t.next.part 0 (field_still ∙ ne_eqb q.state.part 0 (λ e. omega (arith, s.program))) in omega arith);
+                  program = (let n = eqb-false t.part 0 (field_still ∙ ne_eqb q.state.part 0 (λ e. omega (arith, s.program))) in omega arith);
                   room = omega (arith, s.room);
                   short = omega (arith, s.short);
                   filled = rw (join_more s.out x, ← bytes_are y) (filled_more s.filled w);
                 };
           }
 
-    put_good : Onward (put_all (x ∷ [])) q st buf (Good q') st' buf'
+    put_good : Onward (put_all (x ∷ [])) q st buf (Some q') st' buf'
     put_good = leads (record { after = after; names = refl; variables = count_either (kind_of y) q.variables })
 
   -- the same in the code's own values
-  pub put_made : {k v p m len' : ℕ} {buf' : List ℕ} → t.fault ≡ 0 → length st' ≡ length st → k ≡ kind_of y → v ≡ number_of y → p ≡ phase_next k q.phase → m ≡ kept_count k q.variables
+  pub put_made : {t : State} {k v m len' : ℕ} {p : Phase} {buf' : List ℕ} → Steps q.state (kind_of y) (number_of y) st (Ok t) st' → length st' ≡ length st → k ≡ kind_of y → v ≡ number_of y → p ≡ phase_next k q.phase → m ≡ kept_count k q.variables
       → Written buf q.len (k ∷ digits (body k) v) len' buf' → length buf' ≡ length buf
-      → Onward (put_all (x ∷ [])) q st buf (Good (record { phase = p; names = q.names; variables = m; state = t.next; len = len' })) st' buf'
-  put_made f l ek ev ep em w b = rw (ep, em, ek) (put_good f l _ _ (rw (ek, ev) at w) b)
+      → Onward (put_all (x ∷ [])) q st buf (Some (record { phase = p; names = q.names; variables = m; state = t; len = len' })) st' buf'
+  put_made S l ek ev ep em w b = rw (ep, em, ek) (put_good S l _ _ (rw (ek, ev) at w) b)
+
+-- what the check found, as an option
+nothing : {s : State} → None ≡ Some s → ⊥
+nothing h = absurd (let z : false ≡ true = ap is_some h in cc)
+
+module _ (q : State) (k v : ℕ) (st st' : List ℕ) where
+  pub step_made : (t : Result State Fault) {s : State} → Steps q k v st t st' → Some s ≡ result_ok t → Steps q k v st (Ok s) st'
+  step_made (Ok u) {s} S h = let e : s ≡ u = cc in rw e S
+  step_made (Err e) S h = absurd (nothing (sym h))
+
+  pub step_refused : (t : Result State Fault) → Steps q k v st t st' → None ≡ result_ok t → (e : Fault) × Steps q k v st (Err e) st'
+  step_refused (Ok u) S h = absurd (nothing h)
+  step_refused (Err e) S h = (e, S)
 
 -- SEVERAL ELEMENTS
 
@@ -137,7 +153,7 @@ same_some {a} h = ap (λ (o : Option Told). elim o [ none ↦ a | some c ↦ c ]
 none_some : {a : Told} → none ≡ some a → ⊥
 none_some h = absurd (let z : ◌≡◌ {A = ℕ} 0 1 = ap (λ (o : Option Told). elim o [ none ↦ 0 | some c ↦ 1 ]) h in omega arith)
 
-put_one : (e : Element) (p : Phase) (ns vs : List Key) (s : Stage) (out : List Element) → eqb (fault s e) 0 ≡ true
+put_one : (e : Element) (p : Meant) (ns vs : List Key) (s : Stage) (out : List Element) → eqb (fault s e) 0 ≡ true
     → put_all (e ∷ []) (reader p ns vs s out) ≡ some (reader (phase_after e p) ns (kept e vs) (state_after s e) (out ++ (e ∷ [])))
 unfolding put_all
 put_one e p ns vs s out g = put_yes e [] p ns vs s out g
@@ -194,17 +210,11 @@ module _ {es : List Element} {q₀ : Reader} {st₀ buf₀ : List ℕ} {q : Read
   going_able a g = (let m = g.going a.Ns a.Vs a.none a.told a.stands in record { Ns = a.Ns; Vs = a.Vs; none = a.none; told = m.next; stands = m.stands })
 
 -- what is known of the answer
-pub led : {f : Told → Option Told} {q q' : Reader} {st buf st' buf' : List ℕ} {n : Next} → Onward f q st buf n st' buf' → n ≡ Good q' → Led f q st buf q' st' buf'
-led {f} {q} {q'} {st} {buf} {st'} {buf'} {n} o e = go (rw e at o)
-  where
-    go : Onward f q st buf (Good q') st' buf' → Led f q st buf q' st' buf'
-    go (leads l) = l
+pub led : {f : Told → Option Told} {q q' : Reader} {st buf st' buf' : List ℕ} → Onward f q st buf (Some q') st' buf' → Led f q st buf q' st' buf'
+led (leads l) = l
 
-pub barred : {f : Told → Option Told} {q : Reader} {st buf st' buf' : List ℕ} {n : Next} → Onward f q st buf n st' buf' → n ≡ Bad → Barred f q st buf
-barred {f} {q} {st} {buf} {st'} {buf'} o e = go (rw e at o)
-  where
-    go : Onward f q st buf Bad st' buf' → Barred f q st buf
-    go (stops b) = b
+pub barred : {f : Told → Option Told} {q : Reader} {st buf st' buf' : List ℕ} → Onward f q st buf None st' buf' → Barred f q st buf
+barred (stops b) = b
 
 pub led_able : {f : Told → Option Told} {q q' : Reader} {st buf st' buf' : List ℕ} → Able q st buf → Led f q st buf q' st' buf' → Able q' st' buf'
 led_able a l = (let m = l.after a.Ns a.Vs a.none a.told a.stands in record { Ns = a.Ns; Vs = a.Vs; none = a.none; told = m.next; stands = m.stands })

@@ -1,5 +1,5 @@
 -- What the code's values stand for while a text is read, and how a step leads on.
-use Rattle.std.specs.Prelude.{◌≡◌, false, cond, ◌⊎◌, List, [], map, ℕ, ◌+◌, ◌-◌, ◌*◌, ◌≤◌, ◌<◌, length, take, drop, eqb}
+use Rattle.std.specs.Prelude.{◌≡◌, false, cond, ◌⊎◌, List, [], map, ℕ, ◌+◌, ◌-◌, ◌*◌, ◌≤◌, ◌<◌, length, take, drop, eqb, Option as Maybe, Some, None}
 use Rattle.std.proofs.Math.Option.{Option, none, some}
 use Rattle.std.proofs.lemmas.List.Edits.{sets}
 use Rattle.meaning.specs.Elements.{Element, join}
@@ -7,21 +7,25 @@ use Rattle.meaning.specs.Goodness.{State as Stage}
 use Rattle.taking.specs.Standing.{Means}
 use Rattle.text.specs.Numbering.{Key}
 use Rattle.text.specs.Tokens.{Token as Meaning, closed, quoted}
-use Rattle.text.specs.Reading.{Phase, free, between, owed, named, inside, Reader as Told, reader, element, put_all, closing, part_of, signed, put_some, within, heading}
+use Rattle.text.specs.Reading.{Phase as Meant, free, between, owed, named, inside, Reader as Told, reader, element, put_all, closing, part_of, signed, put_some, within, heading}
 use Rattle.tokens.specs.declared.Token.{Token}
 use Rattle.tokens.specs.declared.Token.TheVariants as T
 use Rattle.tokens.specs.Lexemes.{characters_of, Proper}
 use Rattle.putting.specs.declared.Reader.{Reader}
-use Rattle.putting.specs.declared.Next.{Next}
-use Rattle.putting.specs.declared.Next.TheVariants.{Good, Bad}
+use Rattle.putting.specs.declared.Phase.{Phase}
+use Rattle.putting.specs.declared.Phase.TheVariants as P
 
--- the phases by their place in the definition
-unfoldable pub phase_of : ℕ → Phase
-phase_of n = cond (eqb n 1) between (cond (eqb n 2) owed (cond (eqb n 3) named (cond (eqb n 4) inside free)))
+-- the definition's phases
+abbrev pub phase_of : Phase → Meant
+phase_of P.Free = free
+phase_of P.Between = between
+phase_of P.Owed = owed
+phase_of P.Named = named
+phase_of P.Inside = inside
 
 -- the phase, and the number of variables, behind an element of kind k
-unfoldable pub phase_next : ℕ → ℕ → ℕ
-phase_next k p = cond (eqb k 13) 3 (cond (eqb k 14) 1 p)
+unfoldable pub phase_next : ℕ → Phase → Phase
+phase_next k p = cond (eqb k 13) P.Named (cond (eqb k 14) P.Between p)
 
 unfoldable pub kept_count : ℕ → ℕ → ℕ
 kept_count k m = cond (eqb k 13) 0 (cond (eqb k 12) 0 m)
@@ -72,9 +76,9 @@ abbrev pub Barred : (Told → Option Told) → Reader → List ℕ → List ℕ 
 Barred f q st buf = (Ns Vs : ℕ → List Key) → Vs 0 ≡ [] → (r : Told) → Stands Ns Vs q st buf r → f r ≡ none
 
 -- what is good leads on, and what is bad stops the definition's reader too
-pub data Onward (f : Told → Option Told) (q : Reader) (st buf : List ℕ) : Next → List ℕ → List ℕ → Type 0 where
-  leads : {q' : Reader} {st' buf' : List ℕ} → Led f q st buf q' st' buf' → Onward f q st buf (Good q') st' buf'
-  stops : {st' buf' : List ℕ} → Barred f q st buf → Onward f q st buf Bad st' buf'
+pub data Onward (f : Told → Option Told) (q : Reader) (st buf : List ℕ) : Maybe Reader → List ℕ → List ℕ → Type 0 where
+  leads : {q' : Reader} {st' buf' : List ℕ} → Led f q st buf q' st' buf' → Onward f q st buf (Some q') st' buf'
+  stops : {st' buf' : List ℕ} → Barred f q st buf → Onward f q st buf None st' buf'
 
 -- of es, which were to be put, fs are left
 pub record Reached (es fs : List Element) (Ns Vs : ℕ → List Key) (r : Told) (q : Reader) (st buf : List ℕ) : Type 0 where
@@ -153,7 +157,3 @@ pub record Entered (s : List ℕ) (at : ℕ) (t : Token) (end n : ℕ) : Type 0 
   pub ahead : at < end
   pub proper : Proper s at t end
   pub fits : Fits t n
-
--- the same in another phase
-unfoldable pub phased : Reader → ℕ → Next
-phased q p = Good (record { phase = p; names = q.names; variables = q.variables; state = q.state; len = q.len })

@@ -5,55 +5,45 @@ ghost use Rattle.std.specs.Prelude.{◌≡◌, false, List, ◌∷◌, [], map, 
 ghost use Rattle.std.proofs.lemmas.List.Edits.{sets};
 ghost use Rattle.meaning.specs.Elements.{body};
 ghost use Rattle.elements.specs.Bytes.{kind_of, number_of, digits};
-ghost use Rattle.taking.specs.Standing.{Leads};
 ghost use Rattle.text.specs.Tokens.{quoted};
 ghost use Rattle.text.specs.Reading.{element, put_all, type_of, is_sign, entering};
 ghost use Rattle.tokens.specs.Lexemes.{characters_of, token_of};
-ghost use Rattle.putting.specs.Putting.{phase_next, kept_count, Written, Able, Onward, past_character, Closes, further_by, Sure, Runs, braced, signing, making_within, making_header, Entered, phased};
+ghost use Rattle.putting.specs.Putting.{phase_next, kept_count, Written, Able, Onward, past_character, Closes, further_by, Sure, Runs, braced, signing, making_within, making_header, Entered};
 
 use elements::Element;
 use taking::State;
-use tokens::Token;
+use tokens::{Lexeme, Token};
+
+// The phases: a function may begin or the text end; so, or a semicolon may stand (behind a function); a function must begin (behind that
+// semicolon); an opening brace must follow (behind a function's name); inside a function's braces.
+#[derive(Clone, Copy, Debug, PartialEq, Eq)]
+pub enum Phase {
+    Free,
+    Between,
+    Owed,
+    Named,
+    Inside,
+}
 
 // Where reading stands: the phase, the names so far, the variables of this sentence, the check, and the bytes so far.
 #[derive(Clone, Copy)]
 pub struct Reader {
-    pub phase: usize,
+    pub phase: Phase,
     pub names: usize,
     pub variables: usize,
     pub state: State,
     pub len: usize,
 }
 
-// Where reading stands behind what was put, if that is good.
-#[derive(Clone, Copy)]
-pub enum Next {
-    Good(Reader),
-    Bad,
-}
-
-// The phases, in the order of the definition.
-pub const FREE: usize = 0;
-
-pub const BETWEEN: usize = 1;
-
-pub const OWED: usize = 2;
-
-pub const NAMED: usize = 3;
-
-pub const INSIDE: usize = 4;
-
 // A number's n bytes, the low byte first.
 fn write_number(buf: &mut [u8], at: usize, n: usize, number: u32)
     requires { at + n ≤ length buf.old }
     ensures { buf.new ≡ sets buf.old at (digits n number) }
 {
-    let mut i: usize = 0;
     let mut rest = number;
-    while i < n {
+    for i in 0..n {
         buf[at + i] = (rest % 256) as u8;
-        rest = rest / 256;
-        i += 1;
+        rest /= 256;
     }
 }
 
@@ -72,12 +62,12 @@ fn write(buf: &mut [u8], len: usize, kind: u8, number: u32) -> usize
 }
 
 // An opening brace must follow a header, and a function is over behind its end.
-fn phase_after(kind: u8, phase: usize) -> usize
+fn phase_after(kind: u8, phase: Phase) -> Phase
     ensures { result ≡ phase_next kind phase }
 {
     match kind {
-        kinds::HEADER => NAMED,
-        kinds::FUNCTION_END => BETWEEN,
+        kinds::HEADER => Phase::Named,
+        kinds::FUNCTION_END => Phase::Between,
         _ => phase,
     }
 }
@@ -93,24 +83,19 @@ fn kept(kind: u8, variables: usize) -> usize
     }
 }
 
-// Puts one element.
-pub fn put(reader: Reader, e: Element, moves: &[u8; 224], stack: &mut [u8], buf: &mut [u8]) -> Next
-    requires { Leads moves.now × Able reader stack.old buf.old × (number_of e < 256 ^ body (kind_of e)) }
+// Puts one element, if it is good.
+pub fn put(reader: Reader, e: Element, stack: &mut [u8], buf: &mut [u8]) -> Option<Reader>
+    requires { Able reader stack.old buf.old × (number_of e < 256 ^ body (kind_of e)) }
     ensures { Onward (put_all (element (kind_of e) (number_of e) ∷ [])) reader stack.old buf.old result stack.new buf.new }
 {
-    let state = reader.state;
-    let taken = taking::take(state, e, moves, stack);
-    if taken.fault != 0 {
-        return Next::Bad;
-    }
+    let state = taking::take(reader.state, e, stack).ok()?;
     let kind = elements::kind_of(e);
-    let next = taken.next;
-    Next::Good(Reader {
+    Some(Reader {
         phase: phase_after(kind, reader.phase),
-        names: reader.names,
         variables: kept(kind, reader.variables),
-        state: next,
+        state,
         len: write(buf, reader.len, kind, elements::number_of(e)),
+        ..reader
     })
 }
 
@@ -134,38 +119,14 @@ fn past_character(i: usize, b: u8, quote: u8) -> usize
     if b == quote { i + 2 } else { i + 1 }
 }
 
-// How much there is from b up to a; none where b is beyond.
-fn rest(a: usize, b: usize) -> usize
-    ensures { result ≡ a - b }
-{
-    if b <= a { a - b } else { 0 }
-}
-
-fn least(a: usize, b: usize) -> usize
-    ensures { (result ≤ a) × (result ≤ b) }
-{
-    if a <= b { a } else { b }
-}
-
 // So many characters further.
-fn further(reader: Reader, n: usize) -> Reader
+fn further(mut reader: Reader, n: usize) -> Reader
     requires { (reader.state.count + n < 2 ^ 64) × (reader.len + 2 * n < 2 ^ 64) }
     ensures { result ≡ further_by reader n }
 {
-    let state = reader.state;
-    Reader {
-        phase: reader.phase,
-        names: reader.names,
-        variables: reader.variables,
-        state: State {
-            part: state.part,
-            depth: state.depth,
-            count: state.count + n,
-            set: state.set,
-            number: state.number,
-        },
-        len: reader.len + 2 * n,
-    }
+    reader.state.count += n;
+    reader.len += 2 * n;
+    reader
 }
 
 // How far characters were put, and where reading stands then.
@@ -179,10 +140,9 @@ struct Run {
 fn sure(reader: Reader, limit: usize, bytes: usize, left: usize) -> usize
     ensures { Sure reader.state.count reader.len limit bytes left result }
 {
-    let state = reader.state;
-    let side = rest(limit, state.count);
-    let space = rest(bytes, reader.len) / 2;
-    least(left, least(side, space))
+    let side = limit.saturating_sub(reader.state.count);
+    let space = bytes.saturating_sub(reader.len) / 2;
+    left.min(side).min(space)
 }
 
 // Puts characters that surely are good, up to the next quote.
@@ -190,21 +150,17 @@ fn put_run(text: &[u8], from: usize, last: usize, quote: u8, reader: Reader, buf
     requires { (length text.now ≤ 65536) × (length buf.old ≤ 65536) × Closes text.now quote from last }
     ensures { (from ≤ result.at) × Runs text.now quote last from reader buf.old result.at result.reader buf.new }
 {
-    let state = reader.state;
     let none = Run { at: from, reader };
-    if state.part < taking::LEFT {
+    let part = reader.state.part;
+    if !taking::between(taking::LEFT, taking::RIGHT, part) {
         return none;
     }
-    if taking::RIGHT < state.part {
-        return none;
-    }
-    let n = sure(reader, taking::limit_of(state.part), buf.len(), last - from);
+    let n = sure(reader, taking::limit_of(part), buf.len(), last - from);
     if n == 0 {
         return none;
     }
-    let mut k: usize = 0;
     let len = reader.len;
-    while k < n {
+    for k in 0..n {
         let b = text[from + k];
         if b == quote {
             return Run {
@@ -214,11 +170,10 @@ fn put_run(text: &[u8], from: usize, last: usize, quote: u8, reader: Reader, buf
         }
         buf[len + 2 * k] = kinds::CHARACTER;
         buf[len + 2 * k + 1] = b;
-        k += 1;
     }
     Run {
-        at: from + k,
-        reader: further(reader, k),
+        at: from + n,
+        reader: further(reader, n),
     }
 }
 
@@ -229,54 +184,48 @@ fn put_characters(
     last: usize,
     quote: u8,
     reader: Reader,
-    moves: &[u8; 224],
     stack: &mut [u8],
     buf: &mut [u8],
-) -> Next
-    requires { Leads moves.now × Able reader stack.old buf.old × (length text.now ≤ 65536) × Closes text.now quote from last }
+) -> Option<Reader>
+    requires { Able reader stack.old buf.old × (length text.now ≤ 65536) × Closes text.now quote from last }
     ensures { Onward (put_all (map (element 1) (characters_of (quoted quote false (drop from text.now))))) reader stack.old buf.old result stack.new buf.new }
 {
     let mut i = from;
     let mut at = reader;
     while i < last {
         let b = text[i];
-        let Next::Good(next) = put(at, character(b), moves, stack, buf) else {
-            return Next::Bad;
-        };
+        let next = put(at, character(b), stack, buf)?;
         let run = put_run(text, past_character(i, b, quote), last, quote, next, buf);
         at = run.reader;
         i = run.at;
     }
-    Next::Good(at)
+    Some(at)
 }
 
 // A closing brace ends a sentence whose semicolon was left out, and the function.
-fn put_brace(reader: Reader, moves: &[u8; 224], stack: &mut [u8], buf: &mut [u8]) -> Next
-    requires { Leads moves.now × Able reader stack.old buf.old }
+fn put_brace(reader: Reader, stack: &mut [u8], buf: &mut [u8]) -> Option<Reader>
+    requires { Able reader stack.old buf.old }
     ensures { Onward braced reader stack.old buf.old result stack.new buf.new }
 {
-    let state = reader.state;
-    if state.part != taking::RIGHT {
-        return put(reader, Element::FunctionEnd, moves, stack, buf);
+    if reader.state.part != taking::RIGHT {
+        return put(reader, Element::FunctionEnd, stack, buf);
     }
-    let Next::Good(next) = put(reader, Element::SentenceEnd, moves, stack, buf) else {
-        return Next::Bad;
-    };
-    put(next, Element::FunctionEnd, moves, stack, buf)
+    let next = put(reader, Element::SentenceEnd, stack, buf)?;
+    put(next, Element::FunctionEnd, stack, buf)
 }
 
-fn put_sign(reader: Reader, sign: u8, moves: &[u8; 224], stack: &mut [u8], buf: &mut [u8]) -> Next
-    requires { Leads moves.now × Able reader stack.old buf.old }
+fn put_sign(reader: Reader, sign: u8, stack: &mut [u8], buf: &mut [u8]) -> Option<Reader>
+    requires { Able reader stack.old buf.old }
     ensures { Onward (signing sign) reader stack.old buf.old result stack.new buf.new }
 {
     match sign {
-        b'(' => put(reader, Element::Open, moves, stack, buf),
-        b')' => put(reader, Element::Close, moves, stack, buf),
-        b'>' => put(reader, Element::Return, moves, stack, buf),
-        b'=' => put(reader, Element::Equals, moves, stack, buf),
-        b';' => put(reader, Element::SentenceEnd, moves, stack, buf),
-        b'}' => put_brace(reader, moves, stack, buf),
-        _ => Next::Bad,
+        b'(' => put(reader, Element::Open, stack, buf),
+        b')' => put(reader, Element::Close, stack, buf),
+        b'>' => put(reader, Element::Return, stack, buf),
+        b'=' => put(reader, Element::Equals, stack, buf),
+        b';' => put(reader, Element::SentenceEnd, stack, buf),
+        b'}' => put_brace(reader, stack, buf),
+        _ => None,
     }
 }
 
@@ -291,32 +240,30 @@ fn variable(letter: u8, number: u32) -> Element
     }
 }
 
-// What a token makes inside a function's braces; its name or variable has this number, and it ends at `end`.
+// What a token makes inside a function's braces; its name or variable has this number.
 fn put_within(
     text: &[u8],
     at: usize,
-    end: usize,
-    token: Token,
+    lexeme: Lexeme,
     number: u32,
     reader: Reader,
-    moves: &[u8; 224],
     stack: &mut [u8],
     buf: &mut [u8],
-) -> Next
-    requires { Leads moves.now × Able reader stack.old buf.old × (length text.now ≤ 65536) × (at < length text.now) × Entered text.now at token end number }
-    ensures { Onward (making_within (token_of text.now at token) number) reader stack.old buf.old result stack.new buf.new }
+) -> Option<Reader>
+    requires { Able reader stack.old buf.old × (length text.now ≤ 65536) × (at < length text.now) × Entered text.now at lexeme.token lexeme.end number }
+    ensures { Onward (making_within (token_of text.now at lexeme.token) number) reader stack.old buf.old result stack.new buf.new }
 {
-    match token {
-        Token::Gap => Next::Bad,
-        Token::Malformed => Next::Bad,
-        Token::Name => put(reader, Element::Name(number), moves, stack, buf),
-        Token::Call => put(reader, Element::Call(number), moves, stack, buf),
-        Token::Macrodigit(v) => put(reader, macrodigit(v), moves, stack, buf),
+    match lexeme.token {
+        Token::Gap => None,
+        Token::Malformed => None,
+        Token::Name => put(reader, Element::Name(number), stack, buf),
+        Token::Call => put(reader, Element::Call(number), stack, buf),
+        Token::Macrodigit(v) => put(reader, macrodigit(v), stack, buf),
         Token::String => {
-            put_characters(text, at + 1, end - 1, text[at], reader, moves, stack, buf)
+            put_characters(text, at + 1, lexeme.end - 1, text[at], reader, stack, buf)
         }
-        Token::Variable(_, _) => put(reader, variable(text[at], number), moves, stack, buf),
-        Token::Sign => put_sign(reader, text[at], moves, stack, buf),
+        Token::Variable(_, _) => put(reader, variable(text[at], number), stack, buf),
+        Token::Sign => put_sign(reader, text[at], stack, buf),
     }
 }
 
@@ -325,16 +272,15 @@ fn put_header(
     token: Token,
     number: u32,
     reader: Reader,
-    moves: &[u8; 224],
     stack: &mut [u8],
     buf: &mut [u8],
-) -> Next
-    requires { Leads moves.now × Able reader stack.old buf.old × (number < 65536) }
+) -> Option<Reader>
+    requires { Able reader stack.old buf.old × (number < 65536) }
     ensures { (s : List ℕ) (at : ℕ) → Onward (making_header (token_of s at token) number) reader stack.old buf.old result stack.new buf.new }
 {
     match token {
-        Token::Name => put(reader, Element::Header(number), moves, stack, buf),
-        _ => Next::Bad,
+        Token::Name => put(reader, Element::Header(number), stack, buf),
+        _ => None,
     }
 }
 
@@ -349,48 +295,40 @@ fn is_sign(token: Token, byte: u8, sign: u8) -> bool
     }
 }
 
-// The phase alone changes.
-fn in_phase(reader: Reader, phase: usize) -> Next
-    ensures { result ≡ phased reader phase }
-{
-    let state = reader.state;
-    Next::Good(Reader {
-        phase,
-        names: reader.names,
-        variables: reader.variables,
-        state,
-        len: reader.len,
-    })
-}
-
 // One token more, whose name or variable has this number.
 pub fn enter(
     text: &[u8],
     at: usize,
-    end: usize,
-    token: Token,
+    lexeme: Lexeme,
     number: u32,
     reader: Reader,
-    moves: &[u8; 224],
     stack: &mut [u8],
     buf: &mut [u8],
-) -> Next
-    requires { Leads moves.now × Able reader stack.old buf.old × (length text.now ≤ 65536) × (at < length text.now) × Entered text.now at token end number }
-    ensures { Onward (entering (token_of text.now at token) number) reader stack.old buf.old result stack.new buf.new }
+) -> Option<Reader>
+    requires { Able reader stack.old buf.old × (length text.now ≤ 65536) × (at < length text.now) × Entered text.now at lexeme.token lexeme.end number }
+    ensures { Onward (entering (token_of text.now at lexeme.token) number) reader stack.old buf.old result stack.new buf.new }
 {
-    if reader.phase == INSIDE {
-        return put_within(text, at, end, token, number, reader, moves, stack, buf);
-    }
-    if reader.phase == NAMED {
-        if is_sign(token, text[at], b'{') {
-            return in_phase(reader, INSIDE);
+    let token = lexeme.token;
+    match reader.phase {
+        Phase::Inside => put_within(text, at, lexeme, number, reader, stack, buf),
+        Phase::Named => {
+            if !is_sign(token, text[at], b'{') {
+                return None;
+            }
+            Some(Reader {
+                phase: Phase::Inside,
+                ..reader
+            })
         }
-        return Next::Bad;
-    }
-    if reader.phase == BETWEEN {
-        if is_sign(token, text[at], b';') {
-            return in_phase(reader, OWED);
+        Phase::Between => {
+            if is_sign(token, text[at], b';') {
+                return Some(Reader {
+                    phase: Phase::Owed,
+                    ..reader
+                });
+            }
+            put_header(token, number, reader, stack, buf)
         }
+        _ => put_header(token, number, reader, stack, buf),
     }
-    put_header(token, number, reader, moves, stack, buf)
 }

@@ -1,16 +1,18 @@
 -- The parts by number, and the rule of the table at all its entries.
-use mathlib.Core.Path.{◌≡◌, refl, sym}
+use mathlib.Core.Path.{◌≡◌, refl, sym, ◌∙◌, ap}
 use mathlib.Core.Bool.{Bool, true, false, ◌&&◌, ◌||◌, not, cond}
 use mathlib.Core.List.{List}
 use Prim.Native.Nat.{ℕ, zero, suc, ◌+◌, ◌-◌, ◌*◌, ◌/◌, ◌%◌, ◌≤◌, ◌<◌}
 use native.Mathlib.Omega.{arith}
 use lib.ListN.{length, get_or, replicate}
+use Rattle.std.specs.Prelude.{Some, None}
 use lib.Dec.{T, eqb, leb, ltb, eqb→eq}
 use borrow.Author.Tests.{ne_eqb, lt-leb}
 use Rattle.meaning.specs.Goodness.{Part, field, outside, start, left, right, after, ended, span, stands, implies, ends_side, under_limit, on_right, part_after, sided}
-use Rattle.meaning.proofs.Truth.{T_true, and_false, is_true, is_false, see}
+use Rattle.meaning.proofs.Truth.{T_true, never, and_false, is_true, is_false, see}
 use Rattle.meaning.proofs.Tables.{every, table_at}
-use Rattle.taking.specs.Standing.{number_of, part_of, next_of, Leads}
+use Rattle.taking.specs.Standing.{number_of, part_of, next_of}
+use Rattle.taking.specs.declared.TheConstants.{NEXT}
 
 far : (p n : ℕ) → 5 < p → n ≤ 5 → eqb p n ≡ false
 far p n h l = ne_eqb p n (λ e. omega arith)
@@ -85,29 +87,62 @@ number_small after = omega arith
 number_small ended = omega arith
 
 -- ---- the table
-unfoldable pub fits : ℕ → ℕ → Bool
-fits j n = eqb n (48 + next_of (part_of (j / 32)) (j % 32))
+unfoldable digit : Part → ℕ → ℕ
+digit p k = cond (stands p k) (number_of (part_after p k)) 7
 
-pub next_small : (p : Part) (k : ℕ) → next_of p k ≤ 7
-unfolding next_of
-next_small p k =
-    let low = number_small (part_after p k) in
-    elim (see (stands p k)) [ is_true z ↦ rw z (omega arith) | is_false z ↦ rw z (omega arith) ]
-
-pub digit : {a b : ℕ} → a ≡ 48 + b → (48 ≤ a) × (a - 48 ≡ b)
-digit e = (omega arith, omega arith)
+unfoldable fits : ℕ → ℕ → Bool
+fits j n = eqb n (48 + digit (part_of (j / 32)) (j % 32))
 
 -- one test of all the entries
-pub leads : (moves : List ℕ) → T (every fits 0 moves) → 224 ≤ length moves → Leads moves
+leads : (moves : List ℕ) → T (every fits 0 moves) → 224 ≤ length moves → (p k : ℕ) → p < 7 → k < 32 → get_or moves (p * 32 + k) 0 ≡ 48 + digit (part_of p) k
 unfolding fits
-leads moves t l =
-    record {
-      rule = λ p k hp hk.
-          let j : ℕ = p * 32 + k in
-          let ep : j / 32 ≡ p = omega arith in
-          let ek : j % 32 ≡ k = omega arith in
-          eqb→eq (get_or moves j 0) (48 + next_of (part_of p) k) (rw (ep, ek) at (table_at fits moves t j (omega arith)));
-    }
+leads moves t l p k hp hk =
+    let j : ℕ = p * 32 + k in
+    let ep : j / 32 ≡ p = omega arith in
+    let ek : j % 32 ≡ k = omega arith in
+    eqb→eq (get_or moves j 0) (48 + digit (part_of p) k) (rw (ep, ek) at (table_at fits moves t j (omega arith)))
+
+entry : (p k : ℕ) → p < 7 → k < 32 → get_or NEXT (p * 32 + k) 0 ≡ 48 + digit (part_of p) k
+unfolding fits digit part_of stands span part_after
+entry = leads NEXT tt (omega arith)
+
+pub entry_is : (p k : ℕ) → p < 7 → k ≤ 31 → 48 ≤ get_or NEXT (p * 32 + k) 0
+entry_is p k hp hk = omega (arith, entry p k hp (omega arith))
+
+module _ (p k n : ℕ) (hp : p < 7) (hk : k ≤ 31) (e : n ≡ get_or NEXT (p * 32 + k) 0 - 48) where
+  digit_is : n ≡ digit (part_of p) k
+  digit_is = omega (arith, e, entry p k hp (omega arith))
+
+  pub leads_some : n < 7 → Some n ≡ next_of (part_of p) k
+  unfolding next_of digit
+  leads_some h =
+      elim (see (stands (part_of p) k)) [
+        | is_true z ↦ rw z (ap Some (digit_is ∙ rw z))
+        | is_false z ↦ never (omega (arith, rw z at digit_is))
+      ]
+
+  pub leads_none : 7 ≤ n → None ≡ next_of (part_of p) k
+  unfolding next_of digit
+  leads_none h =
+      elim (see (stands (part_of p) k)) [
+        | is_true z ↦ never (omega (arith, number_small (part_after (part_of p) k), rw z at digit_is))
+        | is_false z ↦ rw z
+      ]
+
+-- no kind beyond the table can stand
+stands_low : (p : Part) (k : ℕ) → 31 < k → stands p k ≡ false
+unfolding stands span
+stands_low field k h = rw (lt-leb k 7 (omega arith)) (and_false (leb 1 k))
+stands_low outside k h = rw (ne_eqb k 13 (λ e. omega arith), ne_eqb k 15 (λ e. omega arith))
+stands_low start k h = rw (lt-leb k 5 (omega arith), lt-leb k 11 (omega arith), and_false (leb 1 k), and_false (leb 8 k))
+stands_low left k h = rw (lt-leb k 5 (omega arith), lt-leb k 11 (omega arith), and_false (leb 1 k), and_false (leb 8 k))
+stands_low right k h = rw (lt-leb k 10 (omega arith), ne_eqb k 12 (λ e. omega arith), and_false (leb 1 k))
+stands_low after k h = rw (lt-leb k 5 (omega arith), lt-leb k 11 (omega arith), ne_eqb k 14 (λ e. omega arith), and_false (leb 1 k), and_false (leb 8 k))
+stands_low ended k h = refl
+
+pub leads_beyond : (p k : ℕ) → 31 < k → None ≡ next_of (part_of p) k
+unfolding next_of
+leads_beyond p k h = rw (stands_low (part_of p) k h)
 
 -- what one test finds at every part and every known kind
 everywhere : (f : Part → ℕ → Bool) → T (every (λ j n. f (part_of (j / 16)) (j % 16)) 0 (replicate 112 0)) → (p k : ℕ) → p < 7 → k < 16 → f (part_of p) k ≡ true

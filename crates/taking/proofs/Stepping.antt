@@ -9,7 +9,11 @@ use lib.Dec.{eqb, leb}
 use borrow.Author.Tests.{not-true, eq-eqb, leb-true, ltb-true}
 use Rattle.meaning.specs.Elements.{Element, kind, body, among, is_variable}
 use Rattle.meaning.specs.Goodness.{Part, State as Stage, span, stands, implies, ends_side, paired, under_limit, on_right, first_failing, tests, fault, part_after, sided, variables_after, state_after}
-use Rattle.meaning.proofs.Truth.{is_true, is_false, see, and_left, and_right, or_right, span_le}
+use Rattle.std.proofs.Common.{Option, Some, None, Result, Ok, Err, is_ok, ok_or}
+use Rattle.std.specs.Prelude.{IsErrAnd}
+use Rattle.taking.specs.declared.Fault.{Fault}
+use Rattle.taking.specs.declared.Fault.TheVariants.{Misplaced}
+use Rattle.meaning.proofs.Truth.{never, is_true, is_false, see, and_left, and_right, or_right, span_le}
 use Rattle.taking.specs.declared.State.{State}
 use Rattle.kinds.specs.Stacks.{stack}
 use Rattle.elements.specs.declared.Element.{Element as Read}
@@ -17,7 +21,7 @@ use Rattle.elements.specs.Bytes.{kind_of, number_of, bytes_of}
 use Rattle.elements.proofs.Digits.{digits_one, digits-length}
 use Rattle.elements.proofs.Places.{known-kind}
 use Rattle.kinds.proofs.Bodies.{body_var}
-use Rattle.taking.specs.Standing.{number_of as partNumber, part_of, next_of, stack_after, depth_after, fresh, limits_of, tests_of, Movable, moved_to, Means, Ready, Tells, Steps}
+use Rattle.taking.specs.Standing.{number_of as partNumber, part_of, next_of, test_of, stack_after, depth_after, fresh, limits_of, tests_of, Movable, moved_to, Means, Ready, Tells, Steps}
 use Rattle.taking.proofs.Parts.{part-number, number_small, idles, idles_all, stays, stays_all}
 use Rattle.taking.proofs.Tests.{passes, alike, All, all, ends_high, under, count_side}
 use Rattle.taking.proofs.Opens.{end_none, opened_after, length_after, depth_le, depth_kept}
@@ -35,9 +39,18 @@ seventh true false true = refl
 seventh true false false = refl
 seventh false a r = refl
 
+some_same : {a b : ℕ} {o : Option ℕ} → Some a ≡ o → o ≡ Some b → a ≡ b
+some_same e f = cc
+
+err_same : {a b : Fault} {r : Result ℕ Fault} → Err a ≡ r → r ≡ Err b → a ≡ b
+err_same e f = cc
+
+ok_same : {a b : State} {r : Result State Fault} → r ≡ Ok a → r ≡ Ok b → a ≡ b
+ok_same e f = cc
+
 -- the tests found f, 0 or the first that fails; new says whether the element is a fresh variable
 module _ (q : State) (k v : ℕ) (st : List ℕ) (new : Bool) (en : new ≡ fresh q.set k v) (f : ℕ)
-    (ef : f ≡ first_failing 3 (tests_of q k v (stack q.depth st) new)) where
+    (ef : f ≡ first_failing 3 (stands (part_of q.part) k ∷ tests_of q k v (stack q.depth st) new)) where
   abbrev p : Part
   p = part_of q.part
 
@@ -62,7 +75,7 @@ module _ (q : State) (k v : ℕ) (st : List ℕ) (new : Bool) (en : new ≡ fres
     whole : eqb (length x) (suc (body (kind x))) ≡ true
     whole = eq-eqb (length x) (suc (body (kind x))) (rw I.kind_is I.whole_is)
 
-    same : fault s x ≡ first_failing 3 (tests_of q k v opens new)
+    same : fault s x ≡ first_failing 3 (stands p k ∷ tests_of q k v opens new)
     unfolding fault tests tests_of limits_of
     same =
         rw M.is
@@ -77,19 +90,24 @@ module _ (q : State) (k v : ℕ) (st : List ℕ) (new : Bool) (en : new ≡ fres
     fault-same : f ≡ fault s x
     fault-same = ef ∙ sym same
 
-  pub refused : (f ≡ 0 → ⊥) → Steps q k v st (record { fault = f; next = q }) st
-  refused n = record { fault_is = λ M I. fault-same M I; next_is = λ M I z. absurd (n z); stack_is = λ z. absurd (n z); kept = λ z. (refl, refl) }
+  pub refused : {e : Fault} → test_of e ≡ f → Steps q k v st (Err e) st
+  refused {e} h =
+      record {
+        fault_is = λ M I. h ∙ fault-same M I;
+        next_is = λ M I z. never (let w : false ≡ true = ap is_ok z in cc);
+        stack_is = λ z. never (let w : false ≡ true = z in cc);
+        kept = λ z. refl;
+      }
 
   -- none fails
   module _ (none : f ≡ 0) (R : Ready q st) (known : span 1 15 k ≡ true) where
-    passed : All (tests_of q k v opens new)
-    passed = all 2 (tests_of q k v opens new) (sym ef ∙ none)
+    passed : All (stands p k ∷ tests_of q k v opens new)
+    passed = all 2 (stands p k ∷ tests_of q k v opens new) (sym ef ∙ none)
 
     kind_small : k < 16
     kind_small = let z = span_le 1 15 k known in omega arith
 
     stood : stands p k ≡ true
-    unfolding tests_of
     stood = passed.0
 
     numbered : implies (span 8 10 k) (leb (v) 15) ≡ true
@@ -153,10 +171,10 @@ module _ (q : State) (k v : ℕ) (st : List ℕ) (new : Bool) (en : new ≡ fres
     pub can_move : length st < 2 ^ 64 → Movable q k v new
     can_move l = (count_fits l, new_fits)
 
-    module _ (to : ℕ) (et : k < 32 → to ≡ next_of p k) where
+    module _ (to : ℕ) (et : Some to ≡ next_of p k) where
       to_is : to ≡ partNumber (part_after p k)
       unfolding next_of
-      to_is = et (let z = kind_small in omega arith) ∙ rw stood
+      to_is = some_same et (rw stood)
 
       part_next : part_of to ≡ part_after p k
       part_next = ap part_of to_is ∙ part-number (part_after p k)
@@ -207,14 +225,22 @@ module _ (q : State) (k v : ℕ) (st : List ℕ) (new : Bool) (en : new ≡ fres
           }
 
       pub accepted : (d : ℕ) (st' : List ℕ) (q' : State) → d ≡ depth_after k q.depth → st' ≡ stack_after k q.depth st → q' ≡ moved_to q k v to d new
-          → Steps q k v st (record { fault = f; next = q' }) st'
+          → Steps q k v st (Ok q') st'
       accepted d st' q' ed es eq =
           record {
-            fault_is = λ M I. fault-same M I;
-            next_is = λ M I z. rw (eq, ed, es) (after M I);
+            fault_is = λ M I. sym none ∙ fault-same M I;
+            next_is = λ M I z. rw (← ok_same refl z, eq, ed, es) (after M I);
             stack_is = λ z. es;
-            kept = λ n. absurd (n none);
+            kept = λ z. never (let w : false ≡ true = z in cc);
           }
+
+-- what `?` hands on
+pub handed : (r : Result State Fault) {e : Fault} → IsErrAnd r (λ d. d ≡ e) → r ≡ Err e
+handed (Ok x) h = elim h [ ]
+handed (Err d) h = ap Err h
+
+pub misplaced : {o : Option ℕ} {e : Fault} → Err e ≡ ok_or o Misplaced → o ≡ None → test_of e ≡ 3
+misplaced h z = ap test_of (err_same (rw z at h) refl)
 
 -- an element whose number fits its body is told by its kind and its number
 pub told_by : (y : Read) → number_of y < 256 ^ body (kind_of y) → Tells (kind_of y) (number_of y) (bytes_of y)

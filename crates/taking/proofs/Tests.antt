@@ -1,5 +1,6 @@
 -- What the small tests find, and the first of a list that fails.
-use mathlib.Core.Path.{◌≡◌, refl, sym, ◌∙◌}
+use mathlib.Core.Path.{◌≡◌, refl, sym, ◌∙◌, ap}
+use Rattle.std.specs.Prelude.{Some, None, is_some}
 use mathlib.Core.Bool.{Bool, true, false, ◌||◌, not, cond}
 use mathlib.Core.List.{List, ◌∷◌, []}
 use Prim.Native.Nat.{ℕ, suc, ◌+◌, ◌≤◌, ◌<◌}
@@ -8,14 +9,16 @@ use native.Mathlib.Numerals.{add-one}
 use lib.Dec.{eqb, leb, ltb}
 use borrow.Author.Tests.{le-leb, lt-leb, eqb-true, ne_eqb, ltb-true, lt-ltb, le-ltb}
 use Rattle.meaning.specs.Elements.{Element}
-use Rattle.meaning.specs.Goodness.{span, stands, implies, ends_side, under_limit, first_failing, part_after, sided, count_after, may_end, at}
-use Rattle.meaning.proofs.Truth.{never, is_true, is_false, see, and_false, span_le}
+use Rattle.meaning.specs.Goodness.{Part, span, stands, implies, ends_side, under_limit, first_failing, sided, count_after, may_end, at}
+use Rattle.meaning.proofs.Truth.{never, is_true, is_false, see, and_false}
 use Rattle.kinds.specs.Slots.{slot_of, within, joined}
 use Rattle.taking.specs.declared.State.{State}
 use Rattle.kinds.specs.Stacks.{stack}
-use Rattle.taking.specs.Standing.{number_of, part_of, next_of, fresh, limits_of, moved_to}
+use Rattle.taking.specs.declared.Fault.{Fault}
+use Rattle.taking.specs.declared.Fault.TheVariants.{Misplaced, NumberTooHigh, Unpaired, TooMany, Unknown}
+use Rattle.taking.specs.Standing.{part_of, next_of, test_of, fresh, limits_of, moved_to}
 use Rattle.kinds.proofs.Stacks.{stack-empty}
-use Rattle.taking.proofs.Parts.{by_part, on_right_lem, limit_is, sided_is, number_small}
+use Rattle.taking.proofs.Parts.{by_part, on_right_lem, limit_is, sided_is}
 
 -- ---- what a call found, and what its test said
 pub told : {r b v : Bool} → r ≡ b → r ≡ v → b ≡ v
@@ -33,6 +36,13 @@ passes n bs e f = rw e f
 pub passed : (n : ℕ) → 0 ≡ first_failing n []
 unfolding first_failing
 passed n = refl
+
+pub some_test : (e : Fault) → test_of e ≡ 0 → ⊥
+some_test Misplaced h = never (omega arith)
+some_test NumberTooHigh h = never (omega arith)
+some_test Unpaired h = never (omega arith)
+some_test TooMany h = never (omega arith)
+some_test Unknown h = never (omega arith)
 
 -- lists that agree as far as they are asked
 pub alike : (n : ℕ) {a : Bool} (b : Bool) (xs bs : List Bool) → a ≡ b → (b ≡ true → first_failing (suc n) xs ≡ first_failing (suc n) bs)
@@ -78,24 +88,24 @@ ends_high k z =
     ]
 
 -- ---- the part to which an element leads
-module _ (p k to : ℕ) (z : span 1 15 k ≡ true) (e : k < 32 → to ≡ next_of (part_of p) k) where
-  to_is : to ≡ next_of (part_of p) k
-  to_is = e (let q = span_le 1 15 k z in omega arith)
+none_some : (n : ℕ) → None ≡ Some n → ⊥
+none_some n e = never (let w : false ≡ true = ap is_some e in cc)
 
-  pub stands_no : to ≡ 7 → stands (part_of p) k ≡ false
+module _ (p : Part) (k : ℕ) where
+  pub stands_no : None ≡ next_of p k → stands p k ≡ false
   unfolding next_of
-  stands_no s =
-      elim (see (stands (part_of p) k)) [
-        | is_false y ↦ y
-        | is_true y ↦ never (omega (arith, number_small (part_after (part_of p) k), let q : to ≡ number_of (part_after (part_of p) k) = to_is ∙ rw y in q))
+  stands_no e =
+      elim (see (stands p k)) [
+        | is_false z ↦ z
+        | is_true z ↦ absurd (none_some _ (rw z at e))
       ]
 
-  pub stands_yes : (to ≡ 7 → ⊥) → stands (part_of p) k ≡ true
+  pub stands_yes : {to : ℕ} → Some to ≡ next_of p k → stands p k ≡ true
   unfolding next_of
-  stands_yes s =
-      elim (see (stands (part_of p) k)) [
-        | is_true y ↦ y
-        | is_false y ↦ absurd (s (to_is ∙ rw y))
+  stands_yes e =
+      elim (see (stands p k)) [
+        | is_true z ↦ z
+        | is_false z ↦ absurd (none_some _ (let w : Some _ ≡ None = rw z at e in sym w))
       ]
 
 -- ---- limits

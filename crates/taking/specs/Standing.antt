@@ -1,11 +1,12 @@
 -- What the check's state by value stands for, and one step of the check.
-use Rattle.std.specs.Prelude.{◌≡◌, Bool, true, false, ◌&&◌, ◌||◌, not, cond, List, [], ◌∷◌, ℕ, suc, ◌+◌, ◌-◌, ◌*◌, ◌^◌, ◌≤◌, ◌<◌, length, get_or, set, eqb, leb, ltb}
+use Rattle.std.specs.Prelude.{◌≡◌, Bool, true, false, ◌&&◌, ◌||◌, not, cond, List, [], ◌∷◌, ℕ, suc, ◌+◌, ◌-◌, ◌^◌, ◌≤◌, ◌<◌, length, set, eqb, leb, ltb, Option, Some, None, Result, Ok, Err, IsOk, IsErr}
 use Rattle.meaning.specs.Elements.{Element, kind, body, among}
 use Rattle.meaning.specs.Goodness.{Part, field, outside, start, left, right, after, ended, State as Stage, at, span, stands, implies, ends_side, paired, under_limit, on_right, fault, part_after, sided, count_after, state_after}
 use Rattle.kinds.specs.Slots.{slot_of, within, joined}
 use Rattle.kinds.specs.Stacks.{stack}
 use Rattle.taking.specs.declared.State.{State}
-use Rattle.taking.specs.declared.Taken.{Taken}
+use Rattle.taking.specs.declared.Fault.{Fault}
+use Rattle.taking.specs.declared.Fault.TheVariants.{Misplaced, NumberTooHigh, Unpaired, TooMany, Unknown}
 
 -- the parts by their place in the definition
 abbrev pub number_of : Part → ℕ
@@ -22,13 +23,21 @@ part_of n =
     cond (eqb n 0) field (cond (eqb n 1) outside (cond (eqb n 2) start (cond (eqb n 3) left
     (cond (eqb n 4) right (cond (eqb n 5) after ended)))))
 
--- the part to which an element of kind k leads, or 7 where it cannot stand
-unfoldable pub next_of : Part → ℕ → ℕ
-next_of p k = cond (stands p k) (number_of (part_after p k)) 7
+-- the part to which an element of kind k leads, if it can stand
+unfoldable pub next_of : Part → ℕ → Option ℕ
+next_of p k = cond (stands p k) (Some (number_of (part_after p k))) None
 
--- the same as a table: a row for each part, a digit for each of 32 kinds
-pub record Leads (moves : List ℕ) : Type 0 where
-  pub rule : (p k : ℕ) → p < 7 → k < 32 → get_or moves (p * 32 + k) 0 ≡ 48 + next_of (part_of p) k
+-- the number of the test that an error names, and of the first that failed; 0 if none did
+abbrev pub test_of : Fault → ℕ
+test_of Misplaced = 3
+test_of NumberTooHigh = 4
+test_of Unpaired = 5
+test_of TooMany = 6
+test_of Unknown = 7
+
+abbrev pub fault_of : {A : Type 0} → Result A Fault → ℕ
+fault_of (Ok x) = 0
+fault_of (Err e) = test_of e
 
 -- the stack, and how many are open, after an element of kind k
 unfoldable pub stack_after : ℕ → ℕ → List ℕ → List ℕ
@@ -45,7 +54,7 @@ needed part n = cond (eqb part 0) n 400
 unfoldable pub fresh : ℕ → ℕ → ℕ → Bool
 fresh slots k v = span 8 10 k && (leb v 15 && not (within slots (slot_of k v)))
 
--- the tests of the definition by what the code has at hand: the last two, and those from the third on
+-- the tests of the definition by what the code has at hand: the last two, and those from the fourth on
 unfoldable pub limits_of : State → ℕ → Bool → List Bool
 limits_of q k new =
     ((ends_side k || under_limit (part_of q.part) q.count) && implies new (on_right (part_of q.part) || ltb q.number 16))
@@ -53,8 +62,7 @@ limits_of q k new =
     ∷ []
 
 unfoldable pub tests_of : State → ℕ → ℕ → List ℕ → Bool → List Bool
-tests_of q k v opens new =
-    stands (part_of q.part) k ∷ implies (span 8 10 k) (leb v 15) ∷ paired k opens ∷ limits_of q k new
+tests_of q k v opens new = implies (span 8 10 k) (leb v 15) ∷ paired k opens ∷ limits_of q k new
 
 -- the numbers of the state after an element that passed fit their types
 abbrev pub Movable : State → ℕ → ℕ → Bool → Type 0
@@ -102,8 +110,8 @@ pub record Tells (k v : ℕ) (x : Element) : Type 0 where
   pub pair : span 8 10 k ≡ true → x ≡ k ∷ v ∷ []
 
 -- a step of the check is a step of the definition
-pub record Steps (q : State) (k v : ℕ) (st : List ℕ) (r : Taken) (st' : List ℕ) : Type 0 where
-  pub fault_is : {s : Stage} {x : Element} → Means q st s → Tells k v x → r.fault ≡ fault s x
-  pub next_is : {s : Stage} {x : Element} → Means q st s → Tells k v x → r.fault ≡ 0 → Means r.next st' (state_after s x)
-  pub stack_is : r.fault ≡ 0 → st' ≡ stack_after k q.depth st
-  pub kept : (r.fault ≡ 0 → ⊥) → (r.next ≡ q) × (st' ≡ st)
+pub record Steps (q : State) (k v : ℕ) (st : List ℕ) (r : Result State Fault) (st' : List ℕ) : Type 0 where
+  pub fault_is : {s : Stage} {x : Element} → Means q st s → Tells k v x → fault_of r ≡ fault s x
+  pub next_is : {s : Stage} {x : Element} {q' : State} → Means q st s → Tells k v x → r ≡ Ok q' → Means q' st' (state_after s x)
+  pub stack_is : IsOk r → st' ≡ stack_after k q.depth st
+  pub kept : IsErr r → st' ≡ st

@@ -6,7 +6,7 @@ ghost use Rattle.meaning.specs.Elements.{Element as Bytes};
 ghost use Rattle.meaning.specs.Goodness.{at, span, implies, ends_side, top, paired, under_limit, first_failing, sided, count_after, may_end};
 ghost use Rattle.kinds.specs.Stacks.{stack as opened};
 ghost use Rattle.elements.specs.Bytes.{kind_of, number_of};
-ghost use Rattle.taking.specs.Standing.{part_of, next_of, Leads, stack_after, depth_after, fresh, limits_of, tests_of, Movable, moved_to, Ready, Steps};
+ghost use Rattle.taking.specs.Standing.{part_of, next_of, fault_of, stack_after, depth_after, fresh, limits_of, tests_of, Movable, moved_to, Ready, Steps};
 
 use elements::Element;
 
@@ -21,14 +21,23 @@ pub struct State {
     pub number: usize,
 }
 
-// The number of the first test that an element fails, or 0; and where reading stands after it.
-#[derive(Clone, Copy)]
-pub struct Taken {
-    pub fault: u8,
-    pub next: State,
+// Why an element is bad: the first test of the definition that it fails. A read element has a known kind and its whole body, so it passes
+// the first two.
+#[derive(Clone, Copy, Debug, PartialEq, Eq)]
+pub enum Fault {
+    // 3: its kind cannot stand there.
+    Misplaced,
+    // 4: a variable number exceeds 15.
+    NumberTooHigh,
+    // 5: a closing bracket has no fitting open one, or a side ends with a bracket open.
+    Unpaired,
+    // 6: the side has no room for it, or it is a 17th different variable.
+    TooMany,
+    // 7: a right-side variable absent from the left.
+    Unknown,
 }
 
-// The parts that the code names, by their place in the definition; NOWHERE is none of them.
+// The parts that the code names, by their place in the definition.
 pub const FIELD: usize = 0;
 
 pub const OUTSIDE: usize = 1;
@@ -41,10 +50,9 @@ pub const RIGHT: usize = 4;
 
 pub const AFTER: usize = 5;
 
-pub const NOWHERE: usize = 7;
-
-// What may stand where, and the part to which it leads: a row for each part, a digit for each of 32 kinds. Kinds 10 to 1F cannot stand yet.
-const NEXT: [u8; 224] = *b"\
+// What may stand where, and the part to which it leads, or 7 for none: a row for each part, a digit for each of 32 kinds. Kinds 10 to 1F
+// cannot stand yet.
+static NEXT: [u8; 224] = *b"\
     70000000777777777777777777777777\
     77777777777772767777777777777777\
     73333377333477777777777777777777\
@@ -53,24 +61,16 @@ const NEXT: [u8; 224] = *b"\
     73333377333477177777777777777777\
     77777777777777777777777777777777";
 
-// The table, laid out once for a check.
-pub fn moves() -> [u8; 224]
-    ensures { Leads result }
+// The part to which an element leads, if it can stand.
+pub fn next_part(part: usize, kind: u8) -> Option<usize>
+    requires { part < 7 }
+    ensures { result ≡ next_of (part_of part) kind }
 {
-    NEXT
-}
-
-// The table is lent, since a constant's array is laid out anew at each read.
-pub fn next_part(moves: &[u8; 224], part: usize, kind: u8) -> usize
-    requires { Leads moves.now × (part < 7) }
-    ensures { kind < 32 → result ≡ next_of (part_of part) kind }
-{
-    if kind < 32 {
-        let i = part * 32 + (kind as usize);
-        (moves[i] - b'0') as usize
-    } else {
-        NOWHERE
+    if 31 < kind {
+        return None;
     }
+    let to = (NEXT[part * 32 + (kind as usize)] - b'0') as usize;
+    if to < 7 { Some(to) } else { None }
 }
 
 pub fn between(low: usize, high: usize, n: usize) -> bool
@@ -145,37 +145,33 @@ pub fn is_fresh(set: u64, kind: u8, number: u32) -> bool
 }
 
 // The last two tests: the limits, and that the left side has the variable.
-fn limit_fault(state: State, kind: u8, new: bool) -> u8
-    ensures { result ≡ first_failing 6 (limits_of state kind new) }
+fn test_limits(state: State, kind: u8, new: bool) -> Result<(), Fault>
+    ensures { fault_of result ≡ first_failing 6 (limits_of state kind new) }
 {
     if !has_room(state.part, kind, state.count) {
-        return 6;
+        return Err(Fault::TooMany);
     }
     if !new {
-        return 0;
+        return Ok(());
     }
     if state.part == RIGHT {
-        return 7;
+        return Err(Fault::Unknown);
     }
-    if state.number < 16 { 0 } else { 6 }
+    if state.number < 16 { Ok(()) } else { Err(Fault::TooMany) }
 }
 
-// The number of the first test that an element fails, in the order of the definition. A read element has a known kind and its whole body,
-// so that the first two tests are passed.
-fn fault_of(state: State, kind: u8, number: u32, to: usize, new: bool, stack: &[u8]) -> u8
-    requires { (span 1 15 kind ≡ true) × (kind < 32 → to ≡ next_of (part_of state.part) kind) × (state.depth ≤ length stack.now) }
-    ensures { result ≡ first_failing 3 (tests_of state kind number (opened state.depth stack.now) new) }
+// The tests of an element that can stand, in the order of the definition.
+fn test(state: State, kind: u8, number: u32, new: bool, stack: &[u8]) -> Result<(), Fault>
+    requires { state.depth ≤ length stack.now }
+    ensures { fault_of result ≡ first_failing 4 (tests_of state kind number (opened state.depth stack.now) new) }
 {
-    if to == NOWHERE {
-        return 3;
-    }
     if !is_numbered(kind, number) {
-        return 4;
+        return Err(Fault::NumberTooHigh);
     }
     if !is_paired(kind, state.depth, stack) {
-        return 5;
+        return Err(Fault::Unpaired);
     }
-    limit_fault(state, kind, new)
+    test_limits(state, kind, new)
 }
 
 // Puts an opening bracket on the stack; says how many are open then.
@@ -237,21 +233,17 @@ pub fn state_after(
 }
 
 // Puts one element through the check; a bad one changes nothing.
-pub fn take(state: State, e: Element, moves: &[u8; 224], stack: &mut [u8]) -> Taken
-    requires { Leads moves.now × Ready state stack.old }
+pub fn take(state: State, e: Element, stack: &mut [u8]) -> Result<State, Fault>
+    requires { Ready state stack.old }
     ensures { Steps state (kind_of e) (number_of e) stack.old result stack.new }
 {
     let kind = elements::kind_of(e);
     let number = elements::number_of(e);
-    let to = next_part(moves, state.part, kind);
+    let to = next_part(state.part, kind).ok_or(Fault::Misplaced)?;
     let new = is_fresh(state.set, kind, number);
-    let fault = fault_of(state, kind, number, to, new, stack);
-    if fault != 0 {
-        return Taken { fault, next: state };
-    }
+    test(state, kind, number, new, stack)?;
     let depth = brackets_after(stack, state.depth, kind);
-    let next = state_after(state, kind, number, to, depth, new);
-    Taken { fault, next }
+    Ok(state_after(state, kind, number, to, depth, new))
 }
 
 // The bytes may end behind 0F, and in a field with no bracket open.

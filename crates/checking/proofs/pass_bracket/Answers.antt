@@ -3,15 +3,16 @@ use Prim.Native.Nat.{◌<◌, ◌≤◌}
 use mathlib.Core.Logic.{◌⊎◌, inl, inr}
 use native.Mathlib.Omega.{arith}
 use Rattle.taking.proofs.Tests.{told}
-use Rattle.checking.proofs.Passing.{few, shallow, refused, bracket_passed}
+use Rattle.checking.specs.Passing.{leaves}
+use Rattle.checking.proofs.Passing.{few, shallow, bracket_passed}
 use Rattle.checking.proofs.pass_bracket.Goals as goal
 use Rattle.checking.proofs.pass_bracket.Goals.{then-kind-gt-CLOSE+else-state-ne-RIGHT, else-kind-gt-CLOSE}
 
 pub returns-then-state-ne-RIGHT : goal.returns-then-state-ne-RIGHT
-returns-then-state-ne-RIGHT c = λ n. refused _ _ _ _ (omega arith)
+returns-then-state-ne-RIGHT c = λ n. leaves
 
 pub returns-then-not-is_paired : goal.returns-then-not-is_paired
-returns-then-not-is_paired c = λ n. refused _ _ _ _ (omega arith)
+returns-then-not-is_paired c = λ n. leaves
 
 pub brackets_after-requires : goal.brackets_after-requires
 brackets_after-requires c = (shallow _ _ c.requires.0 c.requires.1, told c.is_paired.ensures c.if-not-is_paired.false)

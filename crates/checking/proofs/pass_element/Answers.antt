@@ -1,5 +1,5 @@
+use Rattle.checking.specs.Passing.{leaves}
 use native.Mathlib.Omega.{arith}
-use Rattle.checking.proofs.Passing.{refused}
 use Rattle.checking.proofs.pass_element.Goals as goal
 
 pub returns-in-Character : goal.returns-in-Character
@@ -34,4 +34,4 @@ pub returns-in-EVariable : goal.returns-in-EVariable
 returns-in-EVariable c = rw c.in-EVariable.is (c.pass_variable-in-EVariable.ensures _ c.requires.1)
 
 pub returns-in_default : goal.returns-in_default
-returns-in_default c = refused _ _ _ _ (omega arith)
+returns-in_default c = leaves

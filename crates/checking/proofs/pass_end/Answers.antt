@@ -1,3 +1,4 @@
+use mathlib.Core.Path.{sym, ◌∙◌}
 use native.Mathlib.Omega.{arith}
 use Rattle.taking.proofs.Tests.{told}
 use Rattle.checking.proofs.Passing.{end_movable}
@@ -10,6 +11,6 @@ state_after-requires c = end_movable c.args.state _ (told c.ends_side.ensures c.
 pub returns : goal.returns
 returns c = (
   omega (arith, c.pass-passed.ensures.next_is),
-  λ st found R. ended R c.if-bytes-at.false c.pass-passed.ensures.kind_is c.pass-passed.ensures.next_is (told c.ends_side.ensures c.if-not-ends_side.false) c.next_part-to.ensures
-      c.if-to-eq-NOWHERE.false c.if-state-ne0.false c.state_after.ensures,
+  λ st found R. ended R c.if-bytes-at.false c.pass-passed.ensures.kind_is c.pass-passed.ensures.next_is (told c.ends_side.ensures c.if-not-ends_side.false) (sym c.in_ok-to.was ∙ c.next_part.ensures)
+      c.if-state-ne0.false c.state_after.ensures,
 )

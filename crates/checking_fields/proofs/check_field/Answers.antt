@@ -6,5 +6,5 @@ returns-then-scratch-field c = too_short c.args.field.now c.args.scratch.now c.i
 
 pub returns : goal.returns
 returns c =
-    checked c.args.field.now c.args.scratch.now c.first_bad_in_field-found.new.stack c.if-scratch-field.false c.first_bad_in_field-found.ensures c.first_bad_in_field-found.auto.stack
+    checked c.args.field.now c.args.scratch.now c.pass_field-found.new.stack c.if-scratch-field.false c.pass_field-found.ensures c.pass_field-found.auto.stack
     c.clear.ensures

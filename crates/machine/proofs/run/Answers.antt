@@ -16,26 +16,26 @@ pub run_field-requires : goal.run_field-requires
 run_field-requires c =
     record {
       sizes_fit = sym c.sizes_fit.ensures ∙ c.if-not-sizes_fit.false;
-      program = check_good (bad_program _) c.check_program.ensures c.in-Good.is;
+      program = check_good (bad_program _) c.in-Ok.ensures;
     }
 
-pub shape_of-field-in-Good : goal.shape_of-field-in-Good
-shape_of-field-in-Good c = c.run_field.auto.field
+pub shape_of-field-in-Ok : goal.shape_of-field-in-Ok
+shape_of-field-in-Ok c = c.run_field.auto.field
 
-pub shape_of-scratch-in-Good : goal.shape_of-scratch-in-Good
-shape_of-scratch-in-Good c = c.run_field.auto.scratch
+pub shape_of-scratch-in-Ok : goal.shape_of-scratch-in-Ok
+shape_of-scratch-in-Ok c = c.run_field.auto.scratch
 
-pub returns-in-Good : goal.returns-in-Good
-returns-in-Good c = c.run_field.ensures
+pub returns-in-Ok : goal.returns-in-Ok
+returns-in-Ok c = c.run_field.ensures
 
-pub shape_of-field-in-Bad : goal.shape_of-field-in-Bad
-shape_of-field-in-Bad c = refl
+pub shape_of-field-in-Err : goal.shape_of-field-in-Err
+shape_of-field-in-Err c = refl
 
-pub shape_of-scratch-in-Bad : goal.shape_of-scratch-in-Bad
-shape_of-scratch-in-Bad c = c.clear.auto.s
+pub shape_of-scratch-in-Err : goal.shape_of-scratch-in-Err
+shape_of-scratch-in-Err c = c.clear.auto.s
 
-pub returns-in-Bad : goal.returns-in-Bad
-returns-in-Bad c =
+pub returns-in-Err : goal.returns-in-Err
+returns-in-Err c =
     let fit = sym c.sizes_fit.ensures ∙ c.if-not-sizes_fit.false in
-    let bad = check_bad (bad_program _) c.check_program.ensures c.in-Bad.is in
-    bad_program_lem _ _ _ _ _ fit bad _ c.clear.ensures c.refusal-in-Bad.ensures
+    let bad = check_bad (bad_program _) c.in-Err.ensures in
+    bad_program_lem _ _ _ _ _ fit bad _ c.clear.ensures c.refusal-in-Err.ensures

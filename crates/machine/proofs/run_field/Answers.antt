@@ -12,36 +12,36 @@ slice_bounds-check_field-end c =
 pub run_checked-requires : goal.run_checked-requires
 run_checked-requires c =
     checked _ _ _ _ c.requires _ c.check_field.auto.scratch
-    (field_good (bad_field _) (c.check_field.ensures.0 ∙ field_check_lem _ _ _ _ c.requires) c.in-Good.is)
+    (field_good (bad_field _) (c.in-Ok.ensures.0 ∙ field_check_lem _ _ _ _ c.requires))
 
-pub shape_of-field-in-Good : goal.shape_of-field-in-Good
-shape_of-field-in-Good c = c.run_checked.auto.field
+pub shape_of-field-in-Ok : goal.shape_of-field-in-Ok
+shape_of-field-in-Ok c = c.run_checked.auto.field
 
-pub shape_of-scratch-in-Good : goal.shape_of-scratch-in-Good
-shape_of-scratch-in-Good c = c.run_checked.auto.scratch ∙ c.check_field.auto.scratch
+pub shape_of-scratch-in-Ok : goal.shape_of-scratch-in-Ok
+shape_of-scratch-in-Ok c = c.run_checked.auto.scratch ∙ c.check_field.auto.scratch
 
-pub returns-in-Good : goal.returns-in-Good
-returns-in-Good c =
-    let good = field_good (bad_field _) (c.check_field.ensures.0 ∙ field_check_lem _ _ _ _ c.requires) c.in-Good.is in
+pub returns-in-Ok : goal.returns-in-Ok
+returns-in-Ok c =
+    let good = field_good (bad_field _) (c.in-Ok.ensures.0 ∙ field_check_lem _ _ _ _ c.requires) in
     same-run _ _ _ _ c.requires _ c.check_field.auto.scratch good _ c.run_checked.ensures
 
-pub shape_of-field-in-Bad : goal.shape_of-field-in-Bad
-shape_of-field-in-Bad c = refl
+pub shape_of-field-in-Err-Bad : goal.shape_of-field-in-Err-Bad
+shape_of-field-in-Err-Bad c = refl
 
-pub shape_of-scratch-in-Bad : goal.shape_of-scratch-in-Bad
-shape_of-scratch-in-Bad c = c.check_field.auto.scratch
+pub shape_of-scratch-in-Err-Bad : goal.shape_of-scratch-in-Err-Bad
+shape_of-scratch-in-Err-Bad c = c.check_field.auto.scratch
 
-pub returns-in-Bad : goal.returns-in-Bad
-returns-in-Bad c =
-    let bad = field_bad (bad_field _) (c.check_field.ensures.0 ∙ field_check_lem _ _ _ _ c.requires) c.in-Bad.is in
+pub returns-in-Err-Bad : goal.returns-in-Err-Bad
+returns-in-Err-Bad c =
+    let bad = field_bad (bad_field _) ((rw c.in-Err-Bad.field-0-is at c.in-Err-Bad.ensures.0) ∙ field_check_lem _ _ _ _ c.requires) in
     bad_field_lem _ _ _ _ c.requires _ bad _ (c.check_field.ensures.1 ∙ scratch_zero _ _ _ _ c.requires) c.refusal.ensures
 
-pub shape_of-field-in-Short : goal.shape_of-field-in-Short
-shape_of-field-in-Short c = refl
+pub shape_of-field-in-Err-Short : goal.shape_of-field-in-Err-Short
+shape_of-field-in-Err-Short c = refl
 
-pub shape_of-scratch-in-Short : goal.shape_of-scratch-in-Short
-shape_of-scratch-in-Short c = c.check_field.auto.scratch
+pub shape_of-scratch-in-Err-Short : goal.shape_of-scratch-in-Err-Short
+shape_of-scratch-in-Err-Short c = c.check_field.auto.scratch
 
-pub returns-in-Short : goal.returns-in-Short
-returns-in-Short c =
-    absurd (never_short (bad_field _) (c.check_field.ensures.0 ∙ field_check_lem _ _ _ _ c.requires) c.in-Short.is)
+pub returns-in-Err-Short : goal.returns-in-Err-Short
+returns-in-Err-Short c =
+    absurd (never_short (bad_field _) ((rw c.in-Err-Short.field-0-is at c.in-Err-Short.ensures.0) ∙ field_check_lem _ _ _ _ c.requires))

@@ -8,7 +8,7 @@ use Rattle.putting.proofs.Characters.{past_more, turn, turn_bad, turn_over}
 use Rattle.putting.proofs.put_characters.Goals as goal
 
 pub loop-i-init : goal.loop-i-init
-loop-i-init c = (going_from _ _ _ _, c.requires.3, c.requires.1, refl, refl)
+loop-i-init c = (going_from _ _ _ _, c.requires.2, c.requires.0, refl, refl)
 
 pub bounds-text-i : goal.bounds-text-i
 bounds-text-i c = let (g, h, a, l, m) = c.loop-i.invariant in omega (arith, h.inside, c.loop-i-test.true)
@@ -18,35 +18,36 @@ unfolding body
 put-requires c =
     let (g, h, a, l, m) = c.loop-i.invariant in
     let (ek, en, eb) = c.character.ensures in
-    (c.requires.0, going_able a g, rw (ek, en) eb)
+    (going_able a g, rw (ek, en) eb)
 
-pub shape_of-stack-in_default : goal.shape_of-stack-in_default
-shape_of-stack-in_default c =
+pub shape_of-stack-in_err-next : goal.shape_of-stack-in_err-next
+shape_of-stack-in_err-next c =
     let (g, h, a, l, m) = c.loop-i.invariant in
     c.put.auto.stack ∙ l
 
-pub shape_of-buf-in_default : goal.shape_of-buf-in_default
-shape_of-buf-in_default c =
+pub shape_of-buf-in_err-next : goal.shape_of-buf-in_err-next
+shape_of-buf-in_err-next c =
     let (g, h, a, l, m) = c.loop-i.invariant in
     c.put.auto.buf ∙ m
 
-pub returns-in_default : goal.returns-in_default
-returns-in_default c =
+pub returns-in_err-next : goal.returns-in_err-next
+returns-in_err-next c =
     let (g, h, a, l, m) = c.loop-i.invariant in
-    stops (turn_bad g h c.loop-i-test.true (rw (c.character.ensures.0, c.character.ensures.1) at (barred c.put.ensures c.in_default.is)))
+    let b = rw (c.character.ensures.0, c.character.ensures.1) at (barred c.in_err-next.ensures) in
+    rw c.from_residual.ensures (stops (turn_bad g h c.loop-i-test.true b))
 
 pub past_character-requires : goal.past_character-requires
 past_character-requires c =
     let (g, h, a, l, m) = c.loop-i.invariant in
-    omega (arith, h.inside, c.loop-i-test.true, c.requires.2)
+    omega (arith, h.inside, c.loop-i-test.true, c.requires.1)
 
 pub put_run-run-requires : goal.put_run-run-requires
 put_run-run-requires c =
     let (g, h, a, l, m) = c.loop-i.invariant in (
-      c.requires.2,
+      c.requires.1,
       omega (arith, c.put.auto.buf, m, a.stands.short),
       (turn g h c.loop-i-test.true c.past_character.ensures
-          (rw (c.character.ensures.0, c.character.ensures.1) at (led c.put.ensures c.in-Good.is))).1,
+          (rw (c.character.ensures.0, c.character.ensures.1) at (led c.in_ok-next.ensures))).1,
     )
 
 pub loop-i-smaller : goal.loop-i-smaller
@@ -62,7 +63,7 @@ loop-i-smaller c =
 pub loop-i-preserved : goal.loop-i-preserved
 loop-i-preserved c =
     let (g, h, a, l, m) = c.loop-i.invariant in
-    let t = turn g h c.loop-i-test.true c.past_character.ensures (rw (c.character.ensures.0, c.character.ensures.1) at (led c.put.ensures c.in-Good.is))
+    let t = turn g h c.loop-i-test.true c.past_character.ensures (rw (c.character.ensures.0, c.character.ensures.1) at (led c.in_ok-next.ensures))
     in
     let r = c.put_run-run.ensures.1 in
     (r.going _ _ _ _ _ a t.0, r.shut, a, c.put.auto.stack ∙ l, c.put_run-run.auto.buf ∙ c.put.auto.buf ∙ m)

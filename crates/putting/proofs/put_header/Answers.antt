@@ -5,7 +5,7 @@ use Rattle.putting.proofs.put_header.Goals as goal
 
 pub put-requires : goal.put-requires
 unfolding body
-put-requires c = (c.requires.0, c.requires.1, c.requires.2)
+put-requires c = (c.requires.0, c.requires.1)
 
 pub returns-in-Name : goal.returns-in-Name
 returns-in-Name c = λ s at. onward_as (heads _ _ (name_heads s at _ _ c.in-Name.is)) c.put.ensures

@@ -6,23 +6,23 @@ use Rattle.putting.proofs.put_sign.Goals as goal
 
 pub put-requires : goal.put-requires
 unfolding body
-put-requires c = (c.requires.0, c.requires.1, omega arith)
+put-requires c = (c.requires, omega arith)
 
 pub put-requires-in-41 : goal.put-requires-in-41
 unfolding body
-put-requires-in-41 c = (c.requires.0, c.requires.1, omega arith)
+put-requires-in-41 c = (c.requires, omega arith)
 
 pub put-requires-in-62 : goal.put-requires-in-62
 unfolding body
-put-requires-in-62 c = (c.requires.0, c.requires.1, omega arith)
+put-requires-in-62 c = (c.requires, omega arith)
 
 pub put-requires-in-61 : goal.put-requires-in-61
 unfolding body
-put-requires-in-61 c = (c.requires.0, c.requires.1, omega arith)
+put-requires-in-61 c = (c.requires, omega arith)
 
 pub put-requires-in-59 : goal.put-requires-in-59
 unfolding body
-put-requires-in-59 c = (c.requires.0, c.requires.1, omega arith)
+put-requires-in-59 c = (c.requires, omega arith)
 
 pub returns-in-40 : goal.returns-in-40
 unfolding signed

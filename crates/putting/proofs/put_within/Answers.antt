@@ -7,29 +7,28 @@ use Rattle.putting.proofs.put_within.Goals as goal
 
 pub put-requires : goal.put-requires
 unfolding body
-put-requires c = (c.requires.0, c.requires.1, (entered_as c.in-Name.is c.requires.4).fits)
+put-requires c = (c.requires.0, (entered_as c.in-Name.is c.requires.3).fits)
 
 pub put-requires-in-Call : goal.put-requires-in-Call
 unfolding body
-put-requires-in-Call c = (c.requires.0, c.requires.1, (entered_as c.in-Call.is c.requires.4).fits)
+put-requires-in-Call c = (c.requires.0, (entered_as c.in-Call.is c.requires.3).fits)
 
 pub put-requires-in-Macrodigit : goal.put-requires-in-Macrodigit
 unfolding body
 put-requires-in-Macrodigit c =
     let (ek, en, eb) = c.macrodigit.ensures in
-    (c.requires.0, c.requires.1, rw (ek, en) eb)
+    (c.requires.0, rw (ek, en) eb)
 
 pub put_characters-requires : goal.put_characters-requires
 put_characters-requires c =
-    let e = entered_as c.in-String.is c.requires.4 in
-    (c.requires.0, c.requires.1, c.requires.2, closes _ _ _ c.requires.3 e.ahead e.proper)
+    let e = entered_as c.in-String.is c.requires.3 in
+    (c.requires.0, c.requires.1, closes _ _ _ c.requires.2 e.ahead e.proper)
 
 pub put-requires-in-Variable : goal.put-requires-in-Variable
 put-requires-in-Variable c =
     let (ek, en) = c.variable.ensures in (
       c.requires.0,
-      c.requires.1,
-      rw (ek, en, body_type (get_or c.args.text.now c.args.at 0)) (entered_as c.in-Variable.is c.requires.4).fits,
+      rw (ek, en, body_type (get_or c.args.text.now c.args.at 0)) (entered_as c.in-Variable.is c.requires.3).fits,
     )
 
 pub returns-in-Gap : goal.returns-in-Gap

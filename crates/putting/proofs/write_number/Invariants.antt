@@ -7,6 +7,3 @@ use Rattle.putting.proofs.write_number.Given as goal
 
 abbrev pub invariant-loop-i : goal.invariant-loop-i
 invariant-loop-i l = (sets l.buf (l.at + l.i) (digits (l.n - l.i) l.rest) ≡ sets l.initial.buf l.at (digits l.n l.number)) × (length l.buf ≡ length l.initial.buf)
-
-abbrev pub decreases-loop-i : goal.decreases-loop-i
-decreases-loop-i l = l.n - l.i

@@ -1,15 +1,15 @@
-use native.Mathlib.Omega.{arith}
-use Rattle.taking.specs.Standing.{part_of}
-use Rattle.taking.proofs.Parts.{digit, next_small}
+use mathlib.Core.Path.{refl}
+use Rattle.taking.proofs.Parts.{entry_is, leads_some, leads_none, leads_beyond}
 use Rattle.taking.proofs.next_part.Goals as goal
 
-pub overflow_sub-result : goal.overflow_sub-result
-overflow_sub-result c = (digit (c.requires.0.rule _ _ c.requires.1 c.if-kind-lt32.true)).0
+pub returns-then-kind-gt31 : goal.returns-then-kind-gt31
+returns-then-kind-gt31 c = leads_beyond _ _ c.if-kind-gt31.true
 
-pub overflow_cast-result : goal.overflow_cast-result
-overflow_cast-result c =
-    let d = digit (c.requires.0.rule _ _ c.requires.1 c.if-kind-lt32.true) in
-    omega (arith, d.1, next_small (part_of c.args.part) c.args.kind)
+pub overflow_sub-to : goal.overflow_sub-to
+overflow_sub-to c = entry_is _ _ c.requires c.if-kind-gt31.false
 
-pub returns-then-kind-lt32 : goal.returns-then-kind-lt32
-returns-then-kind-lt32 c h = (digit (c.requires.0.rule _ _ c.requires.1 h)).1
+pub returns-then-to-lt7 : goal.returns-then-to-lt7
+returns-then-to-lt7 c = leads_some _ _ _ c.requires c.if-kind-gt31.false refl c.if-to-lt7.true
+
+pub returns-else-to-lt7 : goal.returns-else-to-lt7
+returns-else-to-lt7 c = leads_none _ _ _ c.requires c.if-kind-gt31.false refl c.if-to-lt7.false

@@ -1,5 +1,5 @@
 use Rattle.taking.proofs.Tests.{limits_full, limits_old, limits_right, limits_left, limits_many, told}
-use Rattle.taking.proofs.limit_fault.Goals as goal
+use Rattle.taking.proofs.test_limits.Goals as goal
 
 pub returns-then-not-has_room : goal.returns-then-not-has_room
 returns-then-not-has_room c = limits_full _ _ _ (told c.has_room.ensures c.if-not-has_room.true)

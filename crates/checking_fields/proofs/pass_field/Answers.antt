@@ -6,7 +6,7 @@ use Rattle.elements.proofs.Levels.{characters_on}
 use Rattle.elements.proofs.Places.{unread}
 use Rattle.checking_fields.specs.Answers.{check_of}
 use Rattle.checking_fields.proofs.Fields.{begun, got_on, turned, bad_turn, bad_kind, bad_cut, ended_good, ended_early, all}
-use Rattle.checking_fields.proofs.first_bad_in_field.Goals as goal
+use Rattle.checking_fields.proofs.pass_field.Goals as goal
 
 pub loop-c-init : goal.loop-c-init
 loop-c-init c = (begun _ _, refl)
@@ -37,7 +37,7 @@ pub loop-c-preserved : goal.loop-c-preserved
 loop-c-preserved c =
     let i = c.loop-c.invariant in
     let got = rw c.in-Got.is at c.read.ensures in
-    let t = turned i.0 got (rw c.in-Depth.is at c.depth_behind.ensures) in
+    let t = turned i.0 got c.in-Some.ensures in
     (all (omega arith) t c.onward-c.ensures, c.depth_behind.auto.stack ∙ i.1)
 
 pub shape_of-stack-then-depth-eq0 : goal.shape_of-stack-then-depth-eq0

@@ -3,7 +3,7 @@ use Prim.Native.Nat.{◌-◌}
 use lib.ListN.{length}
 use Rattle.meaning.specs.Goodness.{bad_program}
 use Rattle.checking.specs.Passing.{Reading}
-use Rattle.checking.proofs.first_bad.Given as goal
+use Rattle.checking.proofs.pass_program.Given as goal
 
 abbrev pub invariant-loop-at : goal.invariant-loop-at
 invariant-loop-at l =
