@@ -1,2 +1,4 @@
 pub mod Names
 pub mod Index
+pub mod Entries
+pub mod Tables

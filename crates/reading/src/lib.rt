@@ -5,7 +5,6 @@ ghost use Rattle.std.specs.Prelude.{◌≡◌, true, List, ℕ, ◌+◌, ◌*◌
 ghost use Rattle.meaning.specs.Elements.{Element as Bytes, join};
 ghost use Rattle.text.specs.Reading.{type_of, says, said};
 ghost use Rattle.text.specs.Answers.{outcome, fitted, read_text};
-ghost use Rattle.classes.specs.Table.{Classes};
 ghost use Rattle.taking.specs.Standing.{Leads};
 ghost use Rattle.names.specs.Names.{key_at, named};
 ghost use Rattle.names.specs.Index.{Places, Index, count_after};
@@ -101,7 +100,6 @@ fn count_after(n: usize, number: usize) -> usize
 
 // Numbers the name that begins at `at`.
 fn meet_name(
-    classes: &[u8; 256],
     text: &[u8],
     at: usize,
     reader: Reader,
@@ -109,13 +107,13 @@ fn meet_name(
     heads: &mut [u16],
     links: &mut [u16],
 ) -> Met
-    requires classes { Classes classes.now × (length text.now ≤ 65536) × (at < length text.now) × (length (key_at text.now at) ≤ 15) }
+    requires in_text { (length text.now ≤ 65536) × (at < length text.now) × (length (key_at text.now at) ≤ 15) }
     requires names_bound { (reader.names < 32768) × (length firsts.old ≡ 32768) × (length links.old ≡ 32768) }
     requires index { Index text.now firsts.old heads.old links.old reader.names }
     ensures { NameMet text.now at reader firsts.old heads.old links.old result firsts.new heads.new links.new }
 {
     let n = reader.names;
-    let number = names::number(classes, text, firsts, heads, links, n, at);
+    let number = names::number(text, firsts, heads, links, n, at);
     Met {
         number: number as u32,
         reader: counted(reader, count_after(n, number), reader.variables),
@@ -124,7 +122,6 @@ fn meet_name(
 
 // Numbers the variable whose letter stands at `at`.
 fn meet_variable(
-    classes: &[u8; 256],
     text: &[u8],
     at: usize,
     start: usize,
@@ -134,14 +131,14 @@ fn meet_variable(
     starts: &mut [u16],
     sizes: &mut [u16],
 ) -> Met
-    requires classes { Classes classes.now × (length text.now ≤ 65536) × (at < start) × (0 < size) × (start + size ≤ length text.now) }
+    requires in_text { (length text.now ≤ 65536) × (at < start) × (0 < size) × (start + size ≤ length text.now) }
     requires variables_bound { (reader.variables < 49) × (length kinds.old ≡ 49) × (length starts.old ≡ 49) × (length sizes.old ≡ 49) }
     requires inside { Inside text.now kinds.old starts.old sizes.old reader.variables }
     ensures { VariableMet text.now at start size reader kinds.old starts.old sizes.old result kinds.new starts.new sizes.new }
 {
     let kind = type_of(text[at]);
     let m = reader.variables;
-    let v = variables::number(classes, text, kinds, starts, sizes, m, kind, start, size);
+    let v = variables::number(text, kinds, starts, sizes, m, kind, start, size);
     Met {
         number: v.number as u32,
         reader: counted(reader, reader.names, v.count),
@@ -150,7 +147,6 @@ fn meet_variable(
 
 // Numbers a token's name or variable; a new one is kept in the tables.
 fn meet(
-    classes: &[u8; 256],
     text: &[u8],
     at: usize,
     end: usize,
@@ -163,16 +159,16 @@ fn meet(
     starts: &mut [u16],
     sizes: &mut [u16],
 ) -> Met
-    requires classes { Classes classes.now × (length text.now ≤ 65536) × (at < length text.now) }
+    requires in_text { (length text.now ≤ 65536) × (at < length text.now) }
     requires proper { Proper text.now at token end × Spaced text.now at reader.names }
     requires tables { Tables text.now firsts.old heads.old links.old kinds.old starts.old sizes.old reader }
     ensures { Meeting text.now at token reader firsts.old kinds.old starts.old sizes.old result firsts.new heads.new links.new kinds.new starts.new sizes.new }
 {
     match token {
-        Token::Name => meet_name(classes, text, at, reader, firsts, heads, links),
-        Token::Call => meet_name(classes, text, at + 1, reader, firsts, heads, links),
+        Token::Name => meet_name(text, at, reader, firsts, heads, links),
+        Token::Call => meet_name(text, at + 1, reader, firsts, heads, links),
         Token::Variable(start, size) => {
-            meet_variable(classes, text, at, start, size, reader, kinds, starts, sizes)
+            meet_variable(text, at, start, size, reader, kinds, starts, sizes)
         }
         _ => Met { number: 0, reader },
     }
@@ -219,14 +215,13 @@ fn begin() -> Reader
 
 // Reads the text, token by token, into a buffer.
 fn say(
-    classes: &[u8; 256],
     text: &[u8],
     firsts: &mut [u16],
     heads: &mut [u16],
     links: &mut [u16],
     buf: &mut [u8],
 ) -> Said
-    requires classes { Classes classes.now × (length text.now ≤ 65536) × (length buf.old ≡ 65536) }
+    requires in_text { (length text.now ≤ 65536) × (length buf.old ≡ 65536) }
     requires firsts_len { (length firsts.old ≡ 32768) × (length links.old ≡ 32768) × (heads.old ≡ replicate 8192 0) }
     ensures { Saying text.now firsts.new buf.new result }
 {
@@ -238,7 +233,7 @@ fn say(
     let mut reader = begin();
     let mut at: usize = 0;
     while at < text.len() {
-        let lexeme = tokens::lex(classes, text, at);
+        let lexeme = tokens::lex(text, at);
         let token = lexeme.token;
         let end = lexeme.end;
         if is_gap(token) {
@@ -246,7 +241,6 @@ fn say(
             continue;
         }
         let met = meet(
-            classes,
             text,
             at,
             end,
@@ -273,7 +267,6 @@ fn say(
 
 // Hands over what was read, if there is room for it.
 fn give(
-    classes: &[u8; 256],
     text: &[u8],
     firsts: &[u16],
     names: usize,
@@ -282,7 +275,7 @@ fn give(
     program: &mut [u8],
     list: &mut [u8],
 ) -> Answer
-    requires classes { Classes classes.now × Places text.now firsts.now names × (length firsts.now ≡ 32768) }
+    requires in_text { Places text.now firsts.now names × (length firsts.now ≡ 32768) }
     requires buf_len { (length buf.now ≡ 65536) × (length program.old ≤ 65536) }
     ensures { (es : List Bytes) → Filled buf.now (join es) len → outcome (reply_of result) program.new list.new ≡ fitted (says es (named text.now firsts.now names)) program.old list.old }
 {
@@ -295,7 +288,7 @@ fn give(
     }
     moving::copy(buf, 0, len, program, 0);
     moving::clear(program, len, program.len());
-    names::write_list(classes, text, firsts, names, list);
+    names::write_list(text, firsts, names, list);
     Answer {
         code: Code::Read,
         program: len,
@@ -320,20 +313,18 @@ fn read_sized(text: &[u8], program: &mut [u8], list: &mut [u8]) -> Answer
     requires { (length text.now ≤ 65536) × (length program.old ≤ 65536) }
     ensures { outcome (reply_of result) program.new list.new ≡ fitted (said text.now) program.old list.old }
 {
-    let classes = classes::classes();
     let mut firsts = [0u16; 32768];
     let mut heads = [0u16; 8192];
     let mut links = [0u16; 32768];
     let mut buf = [0u8; 65536];
     match say(
-        &classes,
         text,
         &mut firsts,
         &mut heads,
         &mut links,
         &mut buf,
     ) {
-        Said::Says(names, len) => give(&classes, text, &firsts, names, &buf, len, program, list),
+        Said::Says(names, len) => give(text, &firsts, names, &buf, len, program, list),
         Said::Amiss(place) => refused(Code::BadText, place),
     }
 }

@@ -1,7 +1,8 @@
 -- Comments and real numbers, byte by byte.
+use mathlib.Core.Logic.{◌⊎◌, inl, inr}
 use mathlib.Core.Path.{◌≡◌, refl, sym, ap}
 use mathlib.Core.Bool.{Bool, true, false, ◌&&◌, ◌||◌}
-use mathlib.Core.Option.{Option, none, some}
+use mathlib.Core.Option.{Option as Maybe, none, some}
 use mathlib.Core.List.{List}
 use Prim.Native.Nat.{ℕ, suc, ◌+◌, ◌≤◌, ◌<◌}
 use native.Mathlib.Omega.{arith}
@@ -14,17 +15,20 @@ use Rattle.meaning.specs.Goodness.{span}
 use Rattle.meaning.proofs.Truth.{is_true, is_false, see, and_false}
 use Rattle.text.specs.Classes.{class_of, of}
 use Rattle.text.specs.Tokens.{commented, further, real}
+use Rattle.classes.specs.Table.{number_of}
+use Rattle.classes.specs.declared.Class.{Class}
+use Rattle.classes.specs.declared.Class.TheVariants.{Capital, Small, Typed, Digit}
+use Rattle.classes.proofs.Order.{no_letter, no_one}
 use Rattle.tokens.specs.Lexemes.{past_at}
-use Rattle.tokens.specs.declared.Found.{Found}
-use Rattle.tokens.specs.declared.Found.TheVariants as F
+use Rattle.std.specs.Prelude.{Option, Some, None}
 
-past-further : (i : ℕ) (o : Option ℕ) → past_at i (further o) ≡ past_at (suc i) o
+past-further : (i : ℕ) (o : Maybe ℕ) → past_at i (further o) ≡ past_at (suc i) o
 unfolding further
 past-further i none = refl
-past-further i (some n) = ap F.At (let e : i + suc n ≡ suc i + n = omega arith in e)
+past-further i (some n) = ap Some (let e : i + suc n ≡ suc i + n = omega arith in e)
 
 -- the comment's end, seen from i on; h: the byte before was a star
-abbrev pub Past : List ℕ → Bool → ℕ → Found
+abbrev pub Past : List ℕ → Bool → ℕ → Option ℕ
 Past s h i = past_at i (commented h (drop i s))
 
 module _ (s : List ℕ) (i : ℕ) (h : Bool) (l : i < length s) where
@@ -38,11 +42,11 @@ module _ (s : List ℕ) (i : ℕ) (h : Bool) (l : i < length s) where
   pub past_other : (get_or s i 0 ≡ 47 → ⊥) → Past s (eqb (get_or s i 0) 42) (i + 1) ≡ Past s h i
   past_other n = past_on (rw (ne_eqb _ 47 n) (and_false h))
 
-  pub past_end : h ≡ true → get_or s i 0 ≡ 47 → F.At (i + 1) ≡ Past s h i
+  pub past_end : h ≡ true → get_or s i 0 ≡ 47 → Some (i + 1) ≡ Past s h i
   unfolding commented
   past_end t e = rw (drop-cons s i 0 l, t, eq-eqb _ 47 e, commented)
 
-pub past_out : (s : List ℕ) (h : Bool) (i : ℕ) → length s ≤ i → F.Nothing ≡ Past s h i
+pub past_out : (s : List ℕ) (h : Bool) (i : ℕ) → length s ≤ i → None ≡ Past s h i
 unfolding commented
 past_out s h i l = rw (drop_of_length-le s l)
 
@@ -77,28 +81,28 @@ module _ (s : List ℕ) (i : ℕ) where
     unfolding real
     real_at = rw (drop-cons s i 0 (omega arith), ← add-one i, drop-cons s (i + 1) 0 l)
 
-    pub real_no : (get_or s i 0 ≡ 46 → ⊥) → (get_or s i 0 ≡ 69 → ⊥) → false ≡ real (drop i s)
-    real_no a b = sym (rw (real_at, ne_eqb _ 46 a, ne_eqb _ 69 b))
+    pub real_no : ((get_or s i 0 ≡ 46) ⊎ (get_or s i 0 ≡ 69) → ⊥) → false ≡ real (drop i s)
+    real_no n = sym (rw (real_at, ne_eqb _ 46 (λ e. n (inl e)), ne_eqb _ 69 (λ e. n (inr e))))
 
-    pub real_dot : get_or s i 0 ≡ 46 → (k : ℕ) → k ≡ class_of (get_or s (i + 1) 0) → eqb k 6 ≡ real (drop i s)
+    pub real_mark : (get_or s i 0 ≡ 46) ⊎ (get_or s i 0 ≡ 69) → (k : ℕ) → k ≡ class_of (get_or s (i + 1) 0) → eqb k 6 ≡ real (drop i s)
     unfolding of
-    real_dot a k c = rw (real_at, eq-eqb _ 46 a, ← c) (one_class 6 k)
+    real_mark (inl a) k c = rw (real_at, eq-eqb _ 46 a, ← c) (one_class 6 k)
+    real_mark (inr a) k c = rw (real_at, a, ← c) (one_class 6 k)
 
-    pub real_power : (get_or s i 0 ≡ 46 → ⊥) → get_or s i 0 ≡ 69 → (k : ℕ) → k ≡ class_of (get_or s (i + 1) 0) → eqb k 6 ≡ real (drop i s)
-    unfolding of
-    real_power n a k c = rw (real_at, ne_eqb _ 46 n, eq-eqb _ 69 a, ← c) (one_class 6 k)
-
--- tests of classes that are spans
-pub span_below : (lo hi k : ℕ) → k < lo → leb lo k ≡ span lo hi k
+-- tests of classes
+pub letter_yes : (k : Class) → (k ≡ Capital) ⊎ ((k ≡ Small) ⊎ (k ≡ Typed)) → true ≡ span 3 5 (number_of k)
 unfolding span
-span_below lo hi k h = rw (lt-leb lo k h)
+letter_yes k (inl e) = rw e
+letter_yes k (inr (inl e)) = rw e
+letter_yes k (inr (inr e)) = rw e
 
-pub span-within : (lo hi k : ℕ) → lo ≤ k → leb k hi ≡ span lo hi k
+pub letter_no : (k : Class) → (k ≡ Capital → ⊥) → (k ≡ Small → ⊥) → (k ≡ Typed → ⊥) → false ≡ span 3 5 (number_of k)
+letter_no k a b c = sym (no_letter k a b c)
+
+pub index_yes : (k : Class) → (k ≡ Capital) ⊎ (k ≡ Digit) → true ≡ (span 3 3 (number_of k) || span 6 6 (number_of k))
 unfolding span
-span-within lo hi k h = rw (le-leb lo k h)
+index_yes k (inl e) = rw e
+index_yes k (inr e) = rw e
 
-pub first_class : (a b k : ℕ) → k ≡ a → eqb k a ≡ (span a a k || span b b k)
-first_class a b k e = rw (← one_class a k, eq-eqb k a e)
-
-pub either_class : (a b k : ℕ) → (k ≡ a → ⊥) → eqb k b ≡ (span a a k || span b b k)
-either_class a b k n = rw (← one_class a k, ne_eqb k a n) (one_class b k)
+pub index_no : (k : Class) → (k ≡ Capital → ⊥) → (k ≡ Digit → ⊥) → false ≡ (span 3 3 (number_of k) || span 6 6 (number_of k))
+index_no k a b = rw (no_one k Capital a, no_one k Digit b)

@@ -1,7 +1,8 @@
 -- What the code's lexemes stand for, kind by kind.
+use mathlib.Core.Logic.{◌⊎◌, inl, inr}
 use mathlib.Core.Path.{◌≡◌, refl, sym, ◌∙◌, ap, ap₂}
 use mathlib.Core.Bool.{Bool, true, false, ◌&&◌, ◌||◌, not, cond}
-use mathlib.Core.Option.{Option, none, some}
+use mathlib.Core.Option.{Option as Maybe, none, some}
 use mathlib.Core.List.{List, [], ◌∷◌, map, tail}
 use Prim.Native.Nat.{ℕ, zero, suc, ◌+◌, ◌-◌, ◌≤◌, ◌<◌}
 use native.Mathlib.Omega.{arith}
@@ -14,14 +15,17 @@ use Rattle.meaning.specs.Goodness.{span}
 use Rattle.meaning.proofs.Truth.{is_true, is_false, see, or_right, and_left, and_right, span_le}
 use Rattle.text.specs.Classes.{class_of, of, is_capital, is_letter, is_digit, in_name, in_line, front, spell}
 use Rattle.text.specs.Tokens.{name, call, string, variable, sign, Lexeme as Meant, token, gap, wrong, tail_of, spelled, identifier, as_name, as_call, real, value, number, trim, dotted, apart, indexed, Quoted as Chars, unclosed, closed, quoted, as_string, commented, as_gap, slashed, lex_of, lex}
-use Rattle.classes.specs.Table.{spelling, part}
+use Rattle.classes.specs.Table.{number_of, spelling, part}
+use Rattle.classes.specs.declared.Class.{Class}
+use Rattle.classes.specs.declared.Class.TheVariants.{Other, Blank, Capital, Small, Digit, Dash, LineEnd}
+use Rattle.classes.proofs.Order.{other_than}
 use Rattle.classes.proofs.Runs.{of_yes, of_low, of_high, of_eq, of_ne, run_yes, run_no, run_past, run_most}
-use Rattle.tokens.specs.Lexemes.{length_of, closed_at, past_at, Sums, column_at, number_at, starred_at, Trimmed, dotted_at, lex_at, characters_of, token_of, lexeme_of, Proper, Tells}
+use Rattle.tokens.specs.Lexemes.{past_name, closed_at, past_at, ended, Sums, column_at, number_at, starred_at, Trimmed, dotted_at, lex_at, characters_of, token_of, lexeme_of, Proper, Tells}
 use Rattle.tokens.specs.declared.Token.{Token}
 use Rattle.tokens.specs.declared.Token.TheVariants as T
 use Rattle.tokens.specs.declared.Lexeme.{Lexeme}
-use Rattle.tokens.specs.declared.Found.TheVariants as F
-use Rattle.tokens.specs.declared.Quoted.TheVariants as Q
+use Rattle.std.specs.Prelude.{Option, Some, None}
+use Rattle.tokens.specs.declared.Closed.{Closed}
 use Rattle.tokens.proofs.Digits.{cap_over, cap_under}
 use Rattle.tokens.proofs.Comments.{one_class}
 
@@ -72,96 +76,95 @@ see_name (b ∷ bs) =
       | is_false h ↦ no_name (rw h)
     ]
 
-module _ (s : List ℕ) (at end : ℕ) where
-  pub name_none : end ≡ at + length_of (identifier (drop at s)) → end ≡ at → wrong ≡ as_name (identifier (drop at s))
-  name_none e z =
-      elim (see_name (drop at s)) [
-        | no_name h ↦ rw h
-        | a_name h p q k ↦ absurd (let d : end ≡ at + length (spelled (drop at s)) = rw h at e in omega arith)
-      ]
+-- what `ended` makes of an end
+module _ (at : ℕ) (t : Token) (o : Option ℕ) (r : Lexeme) (e : r ≡ ended at t o) where
+  ended_none : o ≡ None → (r.token ≡ T.Malformed) × (r.end ≡ at + 1)
+  ended_none d = (let f : r ≡ ended at t None = e ∙ ap (ended at t) d in (ap (λ (z : Lexeme). z.token) f, ap (λ (z : Lexeme). z.end) f))
 
-  pub name_some : end ≡ at + length_of (identifier (drop at s)) → (end ≡ at → ⊥)
-      → Whole s at T.Name end (as_name (identifier (drop at s)))
+  ended_some : {k : ℕ} → o ≡ Some k → (r.token ≡ t) × (r.end ≡ k)
+  ended_some {k} d = (let f : r ≡ ended at t (Some k) = e ∙ ap (ended at t) d in (ap (λ (z : Lexeme). z.token) f, ap (λ (z : Lexeme). z.end) f))
+
+module _ (s : List ℕ) (at : ℕ) {o : Option ℕ} {r : Lexeme} where
+  pub name_told : o ≡ past_name at (identifier (drop at s)) → r ≡ ended at T.Name o → Tells s at r (as_name (identifier (drop at s)))
   unfolding lexeme_of token_of
-  name_some e z =
+  name_told d e =
       elim (see_name (drop at s)) [
-        | no_name h ↦ absurd (z (let d : end ≡ at + 0 = rw h at e in omega arith))
+        | no_name h ↦ tells_wrong (ended_none at T.Name o r e (d ∙ ap (past_name at) h)) (rw h)
         | a_name h p q k ↦
-            let d : end ≡ at + length (spelled (drop at s)) = rw h at e in
-            let w : end - (at + 1) ≡ length (spelled (drop at s)) - 1 = omega arith in
+            let w : at + length (spelled (drop at s)) - (at + 1) ≡ length (spelled (drop at s)) - 1 = omega arith in
             let z : at + 0 ≡ at = omega arith in
-            (omega arith, rw h (ap {B = Meant} (λ n. token (name (spelled (drop at s))) n) w), (rw (get_or-drop at s 0 0, z) at k, q, d))
+            tells T.Name (at + length (spelled (drop at s))) (ended_some at T.Name o r e (d ∙ ap (past_name at) h))
+            (omega arith, rw h (ap {B = Meant} (λ n. token (name (spelled (drop at s))) n) w), (rw (get_or-drop at s 0 0, z) at k, q, refl))
       ]
 
-  pub call_none : end ≡ at + 1 + length_of (identifier (drop (at + 1) s)) → end ≡ at + 1 → wrong ≡ as_call (identifier (drop (at + 1) s))
-  call_none e z =
-      elim (see_name (drop (at + 1) s)) [
-        | no_name h ↦ rw h
-        | a_name h p q k ↦ absurd (let d : end ≡ at + 1 + length (spelled (drop (at + 1) s)) = rw h at e in omega arith)
-      ]
-
-  pub call_some : end ≡ at + 1 + length_of (identifier (drop (at + 1) s)) → (end ≡ at + 1 → ⊥)
-      → Whole s at T.Call end (as_call (identifier (drop (at + 1) s)))
+  pub call_told : o ≡ past_name (at + 1) (identifier (drop (at + 1) s)) → r ≡ ended at T.Call o → Tells s at r (as_call (identifier (drop (at + 1) s)))
   unfolding lexeme_of token_of
-  call_some e z =
+  call_told d e =
       elim (see_name (drop (at + 1) s)) [
-        | no_name h ↦ absurd (z (let d : end ≡ at + 1 + 0 = rw h at e in omega arith))
+        | no_name h ↦ tells_wrong (ended_none at T.Call o r e (d ∙ ap (past_name (at + 1)) h)) (rw h)
         | a_name h p q k ↦
-            let d : end ≡ at + 1 + length (spelled (drop (at + 1) s)) = rw h at e in
-            (omega arith, rw h (ap {B = Meant} (λ n. token (call (spelled (drop (at + 1) s))) n) (let w : end - (at + 1) ≡ length (spelled (drop (at + 1) s)) = omega arith in w)), (spelled_inside s (at + 1) p, q, d))
+            let w : at + 1 + length (spelled (drop (at + 1) s)) - (at + 1) ≡ length (spelled (drop (at + 1) s)) = omega arith in
+            tells T.Call (at + 1 + length (spelled (drop (at + 1) s))) (ended_some at T.Call o r e (d ∙ ap (past_name (at + 1)) h))
+            (omega arith, rw h (ap {B = Meant} (λ n. token (call (spelled (drop (at + 1) s))) n) w), (spelled_inside s (at + 1) p, q, refl))
       ]
 
 -- where an identifier ends
-module _ (s : List ℕ) (i k : ℕ) where
-  pub ends_out : length s ≤ i → i ≡ i + length_of (identifier (drop i s))
+module _ (s : List ℕ) (i : ℕ) where
+  pub ends_out : length s ≤ i → None ≡ past_name i (identifier (drop i s))
   unfolding identifier
-  ends_out h = rw (drop_of_length-le s h) (omega arith)
+  ends_out h = rw (drop_of_length-le s h)
 
-  pub ends_other : i < length s → k ≡ class_of (get_or s i 0) → (k ≡ 3 → ⊥) → i ≡ i + length_of (identifier (drop i s))
-  unfolding identifier
-  ends_other h e n = rw (drop-cons s i 0 h, of_ne 3 _ k e n) (omega arith)
+  module _ (h : i < length s) (k : ℕ) (q : k ≡ class_of (get_or s i 0)) where
+    pub ends_other : (k ≡ 3 → ⊥) → None ≡ past_name i (identifier (drop i s))
+    unfolding identifier
+    ends_other n = rw (drop-cons s i 0 h, of_ne 3 _ k q n)
 
-  pub ends_name : i < length s → k ≡ class_of (get_or s i 0) → k ≡ 3 → (e : ℕ) → e ≡ i + 1 + length (front in_name (drop (i + 1) s)) → e ≤ i + 15 → e ≡ i + length_of (identifier (drop i s))
-  unfolding identifier spelled tail_of
-  ends_name h q t e d l =
-      let m : length (front in_name (drop (suc i) s)) ≤ 14 = omega (arith, d, ap (λ (j : ℕ). length (front in_name (drop j s))) (add-one i)) in
-      rw (drop-cons s i 0 h, of_eq 3 _ k q t, le-leb _ 14 m) (omega (arith, d, ap (λ (j : ℕ). length (front in_name (drop j s))) (add-one i), length-spell (front in_name (drop (suc i) s))))
+    module _ (t : k ≡ 3) (e : ℕ) (d : e ≡ i + 1 + length (front in_name (drop (i + 1) s))) where
+      pub ends_name : e ≤ i + 15 → Some e ≡ past_name i (identifier (drop i s))
+      unfolding identifier spelled tail_of
+      ends_name l =
+          let n : length (front in_name (drop (i + 1) s)) ≡ length (front in_name (drop (suc i) s)) = ap (λ (j : ℕ). length (front in_name (drop j s))) (add-one i) in
+          let m : length (front in_name (drop (suc i) s)) ≤ 14 = omega arith in
+          rw (drop-cons s i 0 h, of_eq 3 _ k q t, le-leb _ 14 m)
+          (ap {B = Option ℕ} (λ x. Some x) (omega (arith, length-spell (front in_name (drop (suc i) s)))))
 
-  pub ends_long : i < length s → k ≡ class_of (get_or s i 0) → k ≡ 3 → (e : ℕ) → e ≡ i + 1 + length (front in_name (drop (i + 1) s)) → i + 15 < e → i ≡ i + length_of (identifier (drop i s))
-  unfolding identifier
-  ends_long h q t e d l =
-      let m : 14 < length (front in_name (drop (suc i) s)) = omega (arith, d, ap (λ (j : ℕ). length (front in_name (drop j s))) (add-one i)) in
-      rw (drop-cons s i 0 h, of_eq 3 _ k q t, lt-leb _ 14 m) (omega arith)
+      pub ends_long : i + 15 < e → None ≡ past_name i (identifier (drop i s))
+      unfolding identifier
+      ends_long l =
+          let n : length (front in_name (drop (i + 1) s)) ≡ length (front in_name (drop (suc i) s)) = ap (λ (j : ℕ). length (front in_name (drop j s))) (add-one i) in
+          let m : 14 < length (front in_name (drop (suc i) s)) = omega arith in
+          rw (drop-cons s i 0 h, of_eq 3 _ k q t, lt-leb _ 14 m)
 
 -- STRINGS
 
-pub string_open : (s : List ℕ) (at : ℕ) → Q.Open ≡ closed_at (at + 1) 0 (quoted (get_or s at 0) false (drop (at + 1) s)) → wrong ≡ as_string (quoted (get_or s at 0) false (drop (at + 1) s))
+pub string_open : (s : List ℕ) (at : ℕ) → None ≡ closed_at (at + 1) 0 (quoted (get_or s at 0) false (drop (at + 1) s)) → wrong ≡ as_string (quoted (get_or s at 0) false (drop (at + 1) s))
 string_open s at e = go (quoted (get_or s at 0) false (drop (at + 1) s)) e
   where
-    go : (x : Chars) → Q.Open ≡ closed_at (at + 1) 0 x → wrong ≡ as_string x
+    go : (x : Chars) → None ≡ closed_at (at + 1) 0 x → wrong ≡ as_string x
     go unclosed e = refl
-    go (closed x m) e = absurd (let z : ◌≡◌ {A = ℕ} 0 1 = cc in omega arith)
+    go (closed x m) e = absurd (cc)
 
-pub string_long : (s : List ℕ) (at end n : ℕ) → Q.Closed end n ≡ closed_at (at + 1) 0 (quoted (get_or s at 0) false (drop (at + 1) s)) → 255 < n
-    → wrong ≡ as_string (quoted (get_or s at 0) false (drop (at + 1) s))
-string_long s at end n e h = go (quoted (get_or s at 0) false (drop (at + 1) s)) e
-  where
-    go : (x : Chars) → Q.Closed end n ≡ closed_at (at + 1) 0 x → wrong ≡ as_string x
-    go unclosed e = refl
-    go (closed x m) e = (let d : n ≡ 0 + length x = cc in rw (lt-leb (length x) 255 (omega arith)))
+module _ (s : List ℕ) (at : ℕ) (c : Closed) (e : Some c ≡ closed_at (at + 1) 0 (quoted (get_or s at 0) false (drop (at + 1) s))) where
+  pub string_long : 255 < c.characters → wrong ≡ as_string (quoted (get_or s at 0) false (drop (at + 1) s))
+  string_long h = go (quoted (get_or s at 0) false (drop (at + 1) s)) e
+    where
+      go : (x : Chars) → Some c ≡ closed_at (at + 1) 0 x → wrong ≡ as_string x
+      go unclosed e = refl
+      go (closed x m) e = (let d : c ≡ record { end = at + 1 + m; characters = 0 + length x } = cc in let n : c.characters ≡ 0 + length x = ap (λ (z : Closed). z.characters) d in rw (lt-leb (length x) 255 (omega arith)))
 
-pub string_some : (s : List ℕ) (at end n : ℕ) → Q.Closed end n ≡ closed_at (at + 1) 0 (quoted (get_or s at 0) false (drop (at + 1) s)) → n ≤ 255
-    → (at < end) × (lexeme_of s at T.String (end - (at + 1)) ≡ as_string (quoted (get_or s at 0) false (drop (at + 1) s))) × Proper s at T.String end
-unfolding lexeme_of token_of
-string_some s at end n e h = go (quoted (get_or s at 0) false (drop (at + 1) s)) e
-  where
-    go : (x : Chars) → Q.Closed end n ≡ closed_at (at + 1) 0 x → (at < end) × (token (string (characters_of x)) (end - (at + 1)) ≡ as_string x) × (x ≡ closed (characters_of x) (end - (at + 1)))
-    go unclosed e = absurd (let z : ◌≡◌ {A = ℕ} 0 1 = cc in omega arith)
-    go (closed x m) e =
-        let d : n ≡ 0 + length x = cc in
-        let w : end ≡ at + 1 + m = cc in
-        let v : end - (at + 1) ≡ m = omega arith in
-        (omega arith, rw (le-leb (length x) 255 (omega arith)) (ap {B = Meant} (λ k. token (string x) k) v), ap {B = Chars} (λ k. closed x k) (sym v))
+  pub string_some : c.characters ≤ 255
+      → (at < c.end) × (lexeme_of s at T.String (c.end - (at + 1)) ≡ as_string (quoted (get_or s at 0) false (drop (at + 1) s))) × Proper s at T.String c.end
+  unfolding lexeme_of token_of
+  string_some h = go (quoted (get_or s at 0) false (drop (at + 1) s)) e
+    where
+      go : (x : Chars) → Some c ≡ closed_at (at + 1) 0 x → (at < c.end) × (token (string (characters_of x)) (c.end - (at + 1)) ≡ as_string x) × (x ≡ closed (characters_of x) (c.end - (at + 1)))
+      go unclosed e = absurd (cc)
+      go (closed x m) e =
+          let f : c ≡ record { end = at + 1 + m; characters = 0 + length x } = cc in
+          let d : c.characters ≡ 0 + length x = ap (λ (z : Closed). z.characters) f in
+          let w : c.end ≡ at + 1 + m = ap (λ (z : Closed). z.end) f in
+          let v : c.end - (at + 1) ≡ m = omega arith in
+          (omega arith, rw (le-leb (length x) 255 (omega arith)) (ap {B = Meant} (λ k. token (string x) k) v), ap {B = Chars} (λ k. closed x k) (sym v))
 
 -- NUMBERS
 
@@ -213,21 +216,14 @@ module _ (s : List ℕ) (at : ℕ) where
     unfolding slashed
     slashed_at e = rw (drop-cons s (at + 1) 0 l, eq-eqb _ 42 e) (ap (λ (j : ℕ). as_gap (commented false (drop j s))) (let z : suc (at + 1) ≡ at + 2 = omega arith in z))
 
-    pub slashed_none : get_or s (at + 1) 0 ≡ 42 → F.Nothing ≡ past_at (at + 2) (commented false (drop (at + 2) s)) → wrong ≡ slashed (drop (at + 1) s)
-    slashed_none e h = sym (slashed_at e ∙ go (commented false (drop (at + 2) s)) h)
-      where
-        go : (o : Option ℕ) → F.Nothing ≡ past_at (at + 2) o → as_gap o ≡ wrong
-        go none h = refl
-        go (some n) h = absurd (let z : ◌≡◌ {A = ℕ} 0 1 = cc in omega arith)
-
-    pub slashed_some : get_or s (at + 1) 0 ≡ 42 → (end : ℕ) → F.At end ≡ past_at (at + 2) (commented false (drop (at + 2) s))
-        → Whole s at T.Gap end (slashed (drop (at + 1) s))
+    pub slashed_told : get_or s (at + 1) 0 ≡ 42 → {o : Option ℕ} {r : Lexeme} → o ≡ past_at (at + 2) (commented false (drop (at + 2) s)) → r ≡ ended at T.Gap o
+        → Tells s at r (slashed (drop (at + 1) s))
     unfolding lexeme_of token_of
-    slashed_some e end h = rw (slashed_at e) (go (commented false (drop (at + 2) s)) h)
+    slashed_told c {o} {r} d e = rw (slashed_at c) (go (commented false (drop (at + 2) s)) d)
       where
-        go : (o : Option ℕ) → F.At end ≡ past_at (at + 2) o → (at < end) × (gap (end - (at + 1)) ≡ as_gap o) × Unit {0}
-        go none h = absurd (let z : ◌≡◌ {A = ℕ} 0 1 = cc in omega arith)
-        go (some n) h = (let d : end ≡ at + 2 + n = cc in (omega arith, ap gap (let z : end - (at + 1) ≡ suc n = omega arith in z), tt))
+        go : (x : Maybe ℕ) → o ≡ past_at (at + 2) x → Tells s at r (as_gap x)
+        go none d = tells_wrong (ended_none at T.Gap o r e d) refl
+        go (some n) d = tells T.Gap (at + 2 + n) (ended_some at T.Gap o r e d) (omega arith, ap gap (let z : at + 2 + n - (at + 1) ≡ suc n = omega arith in z), tt)
 
   pub starred_no : (b : Bool) → b ≡ column_at s at → b ≡ false → wrong ≡ starred_at s at
   starred_no b e t = rw (← e, t)
@@ -446,21 +442,30 @@ module _ (s : List ℕ) (i k : ℕ) where
   apart_out h = rw (drop_of_length-le s h)
 
   module _ (l : i < length s) (e : k ≡ class_of (get_or s i 0)) where
-    pub apart_type : k ≡ 5 → true ≡ apart (drop i s)
+    pub apart_yes : (3 ≤ k → k ≤ 7 → k ≡ 5) → true ≡ apart (drop i s)
     unfolding apart
-    apart_type q = sym (rw (drop-cons s i 0 l, of_eq 5 _ k e q) (or_right (not (in_name (get_or s i 0)))))
-
-    pub apart_low : k < 3 → true ≡ apart (drop i s)
-    unfolding apart
-    apart_low q = rw (drop-cons s i 0 l, of_low 3 7 _ k e q)
-
-    pub apart_high : (k ≡ 5 → ⊥) → 3 ≤ k → ltb 7 k ≡ apart (drop i s)
-    unfolding apart
-    apart_high n q =
-        elim (see (ltb 7 k)) [
-          | is_true h ↦ rw (h, drop-cons s i 0 l, of_high 3 7 _ k e q (ltb-true 7 k h))
-          | is_false h ↦ rw (h, drop-cons s i 0 l, of_yes 3 7 _ k e q (ltb-false 7 k h), of_ne 5 _ k e n)
+    apart_yes h =
+        elim (see (leb 3 k)) [
+          | is_false a ↦ rw (drop-cons s i 0 l, of_low 3 7 _ k e (leb-false 3 k a))
+          | is_true a ↦
+              elim (see (leb k 7)) [
+                | is_false b ↦ rw (drop-cons s i 0 l, of_high 3 7 _ k e (leb-true 3 k a) (leb-false k 7 b))
+                | is_true b ↦ sym (rw (drop-cons s i 0 l, of_eq 5 _ k e (h (leb-true _ _ a) (leb-true _ _ b))) (or_right (not (in_name (get_or s i 0)))))
+              ]
         ]
+
+    pub apart_no : 3 ≤ k → k ≤ 7 → (k ≡ 5 → ⊥) → false ≡ apart (drop i s)
+    unfolding apart
+    apart_no p q n = rw (drop-cons s i 0 l, of_yes 3 7 _ k e p q, of_ne 5 _ k e n)
+
+pub touching : (k : Class) → (k ≡ Capital) ⊎ ((k ≡ Small) ⊎ ((k ≡ Digit) ⊎ (k ≡ Dash))) → (3 ≤ number_of k) × (number_of k ≤ 7) × (number_of k ≡ 5 → ⊥)
+touching k (inl e) = rw e (omega arith, omega arith, λ z. omega arith)
+touching k (inr (inl e)) = rw e (omega arith, omega arith, λ z. omega arith)
+touching k (inr (inr (inl e))) = rw e (omega arith, omega arith, λ z. omega arith)
+touching k (inr (inr (inr e))) = rw e (omega arith, omega arith, λ z. omega arith)
+
+pub beside : (k : Class) → (k ≡ Capital → ⊥) → (k ≡ Small → ⊥) → (k ≡ Digit → ⊥) → (k ≡ Dash → ⊥) → 3 ≤ number_of k → number_of k ≤ 7 → number_of k ≡ 5
+beside k a b c d p q = omega (arith, other_than k Capital a, other_than k Small b, other_than k Digit c, other_than k Dash d)
 
 -- BY CLASS
 
@@ -477,7 +482,7 @@ module _ (s : List ℕ) (at k : ℕ) (e : k ≡ class_of (get_or s at 0)) where
   by_class = ap (λ (j : ℕ). lex_of j (column_at s at) byte rest) e
 
   -- what the definition says for each class
-  pub lex_blank : k ≡ 1 → gap 0 ≡ lex_at s at
+  lex_blank : k ≡ 1 → gap 0 ≡ lex_at s at
   unfolding lex_of
   lex_blank h = rw (← by_class, h)
 
@@ -517,14 +522,25 @@ module _ (s : List ℕ) (at k : ℕ) (e : k ≡ class_of (get_or s at 0)) where
   unfolding lex_of
   lex_star h = rw (← by_class, h)
 
-  pub lex_end : k ≡ 12 → gap 0 ≡ lex_at s at
+  lex_end : k ≡ 12 → gap 0 ≡ lex_at s at
   unfolding lex_of
   lex_end h = rw (← by_class, h)
 
-  pub lex_other : (k ≡ 1 → ⊥) → (k ≡ 2 → ⊥) → (k ≡ 3 → ⊥) → (k ≡ 5 → ⊥) → (k ≡ 6 → ⊥) → (k ≡ 8 → ⊥) → (k ≡ 9 → ⊥) → (k ≡ 10 → ⊥) → (k ≡ 11 → ⊥) → (k ≡ 12 → ⊥) → wrong ≡ lex_at s at
+  lex_nothing : (k ≡ 0) ⊎ ((k ≡ 4) ⊎ (k ≡ 7)) → wrong ≡ lex_at s at
   unfolding lex_of
-  lex_other a b c d f g h i j l =
-      rw (← by_class, ne_eqb k 1 a, ne_eqb k 2 b, ne_eqb k 3 c, ne_eqb k 5 d, ne_eqb k 6 f, ne_eqb k 8 g, ne_eqb k 9 h, ne_eqb k 10 i, ne_eqb k 11 j, ne_eqb k 12 l)
+  lex_nothing (inl h) = rw (← by_class, h)
+  lex_nothing (inr (inl h)) = rw (← by_class, h)
+  lex_nothing (inr (inr h)) = rw (← by_class, h)
+
+module _ (s : List ℕ) (at : ℕ) (c : Class) (e : number_of c ≡ class_of (get_or s at 0)) where
+  pub lex_gap : (c ≡ Blank) ⊎ (c ≡ LineEnd) → gap 0 ≡ lex_at s at
+  lex_gap (inl h) = lex_blank s at (number_of c) e (ap number_of h)
+  lex_gap (inr h) = lex_end s at (number_of c) e (ap number_of h)
+
+  pub lex_other : (c ≡ Other) ⊎ ((c ≡ Small) ⊎ (c ≡ Dash)) → wrong ≡ lex_at s at
+  lex_other (inl h) = lex_nothing s at (number_of c) e (inl (ap number_of h))
+  lex_other (inr (inl h)) = lex_nothing s at (number_of c) e (inr (inl (ap number_of h)))
+  lex_other (inr (inr h)) = lex_nothing s at (number_of c) e (inr (inr (ap number_of h)))
 
 pub tells_as : {s : List ℕ} {at : ℕ} {r : Lexeme} {x y : Meant} → x ≡ y → Tells s at r x → Tells s at r y
 tells_as e t = record { is = t.is ∙ e; ahead = t.ahead; proper = t.proper }

@@ -1,7 +1,8 @@
 -- A string's end and the number of its characters, byte by byte.
 use mathlib.Core.Path.{◌≡◌, refl, sym, ◌∙◌, ap, ap₂}
-use mathlib.Core.Bool.{Bool, true, false}
+use mathlib.Core.Bool.{Bool, true, false, not}
 use mathlib.Core.List.{List, [], ◌∷◌}
+use mir.Val.{bool_byte}
 use Prim.Native.Nat.{ℕ, ◌+◌, ◌≤◌, ◌<◌}
 use native.Mathlib.Omega.{arith}
 use native.Mathlib.Numerals.{add-one}
@@ -12,18 +13,18 @@ use Rattle.text.specs.Classes.{class_of, ends_line}
 use Rattle.text.specs.Tokens.{Quoted as Chars, unclosed, closed, longer, before, quoted}
 use Rattle.classes.proofs.Runs.{of_eq, of_ne}
 use Rattle.tokens.specs.Lexemes.{closed_at}
-use Rattle.tokens.specs.declared.Quoted.{Quoted}
-use Rattle.tokens.specs.declared.Quoted.TheVariants as Q
+use Rattle.std.specs.Prelude.{Option, Some, None}
+use Rattle.tokens.specs.declared.Closed.{Closed}
 
 closed_before : (i n b : ℕ) (x : Chars) → closed_at i n (before b x) ≡ closed_at (i + 1) (n + 1) x
 unfolding before
 closed_before i n b unclosed = refl
-closed_before i n b (closed x m) = ap₂ {C = Quoted} (λ u v. Q.Closed u v) (omega arith) (omega arith)
+closed_before i n b (closed x m) = ap₂ {C = Option Closed} (λ u v. Some (record { end = u; characters = v })) (omega arith) (omega arith)
 
 closed_longer : (i n : ℕ) (x : Chars) → closed_at i n (longer x) ≡ closed_at (i + 1) n x
 unfolding longer
 closed_longer i n unclosed = refl
-closed_longer i n (closed x m) = ap {B = Quoted} (λ u. Q.Closed u (n + length x)) (omega arith)
+closed_longer i n (closed x m) = ap {B = Option Closed} (λ u. Some (record { end = u; characters = n + length x })) (omega arith)
 
 module _ (q b : ℕ) (bs : List ℕ) where
   twice : b ≡ q → quoted q true (b ∷ bs) ≡ before b (quoted q false bs)
@@ -47,7 +48,7 @@ module _ (q b : ℕ) (bs : List ℕ) where
   on e h = rw (ne_eqb b q e, h, quoted)
 
 -- the string seen from j on, m characters and perhaps a quote before it
-abbrev pub Closing : List ℕ → ℕ → Bool → ℕ → ℕ → Quoted
+abbrev pub Closing : List ℕ → ℕ → Bool → ℕ → ℕ → Option Closed
 Closing s q held j m = closed_at j m (quoted q held (drop j s))
 
 module _ (s : List ℕ) (q i n : ℕ) where
@@ -60,46 +61,56 @@ module _ (s : List ℕ) (q i n : ℕ) where
   pub quote_free : i < length s → get_or s i 0 ≡ q → Closing s q false i n ≡ Closing s q true (i + 1) n
   quote_free h e = at_byte false h ∙ ap (closed_at i n) (once q _ _ e) ∙ closed_longer i n _
 
-  pub other_held : i < length s → (get_or s i 0 ≡ q → ⊥) → Q.Closed i n ≡ Closing s q true i n
-  other_held h e = ap₂ {C = Quoted} (λ u v. Q.Closed u v) (omega arith) (omega arith) ∙ sym (at_byte true h ∙ ap (closed_at i n) (done q _ _ e))
+  pub other_held : i < length s → (get_or s i 0 ≡ q → ⊥) → Some (record { end = i; characters = n }) ≡ Closing s q true i n
+  other_held h e = ap₂ {C = Option Closed} (λ u v. Some (record { end = u; characters = v })) (omega arith) (omega arith) ∙ sym (at_byte true h ∙ ap (closed_at i n) (done q _ _ e))
 
-  pub other_end : i < length s → (get_or s i 0 ≡ q → ⊥) → (k : ℕ) → k ≡ class_of (get_or s i 0) → k ≡ 12 → Q.Open ≡ Closing s q false i n
+  pub other_end : i < length s → (get_or s i 0 ≡ q → ⊥) → (k : ℕ) → k ≡ class_of (get_or s i 0) → k ≡ 12 → None ≡ Closing s q false i n
   other_end h e k d z = sym (at_byte false h ∙ ap (closed_at i n) (torn q _ _ e (of_eq 12 _ k d z)))
 
   pub other_on : i < length s → (get_or s i 0 ≡ q → ⊥) → (k : ℕ) → k ≡ class_of (get_or s i 0) → (k ≡ 12 → ⊥) → Closing s q false i n ≡ Closing s q false (i + 1) (n + 1)
   other_on h e k d z = at_byte false h ∙ ap (closed_at i n) (on q _ _ e (of_ne 12 _ k d z)) ∙ closed_before i n _ _
 
-  pub out_held : length s ≤ i → Q.Closed i n ≡ Closing s q true i n
+  pub out_held : length s ≤ i → Some (record { end = i; characters = n }) ≡ Closing s q true i n
   unfolding quoted
-  out_held h = rw (drop_of_length-le s h) (ap₂ {C = Quoted} (λ u v. Q.Closed u v) (omega arith) (omega arith))
+  out_held h = rw (drop_of_length-le s h) (ap₂ {C = Option Closed} (λ u v. Some (record { end = u; characters = v })) (omega arith) (omega arith))
 
-  pub out_free : length s ≤ i → Q.Open ≡ Closing s q false i n
+  pub out_free : length s ≤ i → None ≡ Closing s q false i n
   unfolding quoted
   out_free h = rw (drop_of_length-le s h)
 
+-- where the loop stands, m characters before the place j; a held quote lies inside
+abbrev pub Stands : List ℕ → ℕ → Bool → ℕ → ℕ → Option Closed → Type 0
+Stands s q held j m all = (Closing s q held j m ≡ all) × (m ≤ j) × (held ≡ true → j ≤ length s)
+
 -- a turn of the loop, and its ends
-module _ (s : List ℕ) (q i n : ℕ) (held : Bool) (all : Quoted) (inv : (Closing s q held i n ≡ all) × (n ≤ i)) where
-  under : (b : Bool) → held ≡ b → Closing s q b i n ≡ all
-  under b h = ap (λ (x : Bool). Closing s q x i n) (sym h) ∙ inv.0
+module _ (s : List ℕ) (q i n : ℕ) {all : Option Closed} where
+  pub turn_quote : (held : Bool) → Stands s q held i n all → i < length s → get_or s i 0 ≡ q → {d : ℕ} → d ≡ bool_byte held → Stands s q (not held) (i + 1) (n + d) all
+  turn_quote true (inv, m, p) h e {d} f =
+      let o : d ≡ 1 = f in
+      rw o (sym (quote_held s q i n h e) ∙ inv, omega arith, λ z. omega arith)
+  turn_quote false (inv, m, p) h e {d} f =
+      let o : n + d ≡ n = omega (arith, f) in
+      rw o (sym (quote_free s q i n h e) ∙ inv, omega arith, λ z. omega arith)
 
-  pub turn_held : i < length s → get_or s i 0 ≡ q → held ≡ true → (Closing s q false (i + 1) (n + 1) ≡ all) × (n + 1 ≤ i + 1)
-  turn_held h e t = (sym (quote_held s q i n h e) ∙ under true t, (let z : n ≤ i = inv.1 in omega arith))
+  module _ (held : Bool) (inv : Stands s q held i n all) where
+    under : (b : Bool) → held ≡ b → Closing s q b i n ≡ all
+    under b h = ap (λ (x : Bool). Closing s q x i n) (sym h) ∙ inv.0
 
-  pub turn_free : i < length s → get_or s i 0 ≡ q → held ≡ false → (Closing s q true (i + 1) n ≡ all) × (n ≤ i + 1)
-  turn_free h e t = (sym (quote_free s q i n h e) ∙ under false t, (let z : n ≤ i = inv.1 in omega arith))
+    module _ (h : i < length s) (e : get_or s i 0 ≡ q → ⊥) where
+      pub turn_on : held ≡ false → (k : ℕ) → k ≡ class_of (get_or s i 0) → (k ≡ 12 → ⊥) → Stands s q held (i + 1) (n + 1) all
+      turn_on t k d z =
+          (ap (λ (x : Bool). Closing s q x (i + 1) (n + 1)) t ∙ sym (other_on s q i n h e k d z) ∙ under false t, (let m : n ≤ i = inv.1 in omega arith), λ u. omega arith)
 
-  pub turn_on : i < length s → (get_or s i 0 ≡ q → ⊥) → held ≡ false → (k : ℕ) → k ≡ class_of (get_or s i 0) → (k ≡ 12 → ⊥) → (Closing s q held (i + 1) (n + 1) ≡ all) × (n + 1 ≤ i + 1)
-  turn_on h e t k d z =
-      (ap (λ (x : Bool). Closing s q x (i + 1) (n + 1)) t ∙ sym (other_on s q i n h e k d z) ∙ under false t, (let z : n ≤ i = inv.1 in omega arith))
+      pub end_held : held ≡ true → Some (record { end = i; characters = n }) ≡ all
+      end_held t = other_held s q i n h e ∙ under true t
 
-  pub end_held : i < length s → (get_or s i 0 ≡ q → ⊥) → held ≡ true → Q.Closed i n ≡ all
-  end_held h e t = other_held s q i n h e ∙ under true t
+      pub end_line : held ≡ false → (k : ℕ) → k ≡ class_of (get_or s i 0) → k ≡ 12 → None ≡ all
+      end_line t k d z = other_end s q i n h e k d z ∙ under false t
 
-  pub end_line : i < length s → (get_or s i 0 ≡ q → ⊥) → held ≡ false → (k : ℕ) → k ≡ class_of (get_or s i 0) → k ≡ 12 → Q.Open ≡ all
-  end_line h e t k d z = other_end s q i n h e k d z ∙ under false t
+    pub end_out : length s ≤ i → held ≡ true → Some (record { end = length s; characters = n }) ≡ all
+    end_out h t =
+        let l : length s ≡ i = omega (arith, inv.2 t) in
+        ap {B = Option Closed} (λ j. Some (record { end = j; characters = n })) l ∙ out_held s q i n h ∙ under true t
 
-  pub end_out : length s ≤ i → held ≡ true → Q.Closed i n ≡ all
-  end_out h t = out_held s q i n h ∙ under true t
-
-  pub end_open : length s ≤ i → held ≡ false → Q.Open ≡ all
-  end_open h t = out_free s q i n h ∙ under false t
+    pub end_open : length s ≤ i → held ≡ false → None ≡ all
+    end_open h t = out_free s q i n h ∙ under false t

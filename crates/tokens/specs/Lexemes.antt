@@ -1,31 +1,33 @@
 -- What the code's lexemes stand for, and what its scanners hand back.
-use Rattle.std.specs.Prelude.{◌≡◌, Bool, true, false, cond, List, [], ℕ, zero, suc, ◌+◌, ◌-◌, ◌≤◌, ◌<◌, length, get_or, take, drop, ltb}
-use Rattle.std.proofs.Math.Option.{Option, none, some}
+use Rattle.std.specs.Prelude.{◌≡◌, Bool, true, false, cond, List, [], ℕ, zero, suc, ◌+◌, ◌-◌, ◌≤◌, ◌<◌, length, get_or, take, drop, ltb, Option, Some, None}
+use Rattle.std.proofs.Math.Option.{Option as Maybe, none, some}
 use Rattle.text.specs.Classes.{is_capital, is_digit, in_name, ends_line, in_line, front}
 use Rattle.text.specs.Tokens.{Token as Meaning, malformed, name, call, macrodigit, string, variable, sign, Lexeme as Meant, token, gap, wrong, spelled, value, number, trim, dotted, Quoted as Chars, unclosed, closed, quoted, lex}
 use Rattle.classes.specs.Table.{part}
 use Rattle.tokens.specs.declared.Token.{Token}
 use Rattle.tokens.specs.declared.Token.TheVariants as T
 use Rattle.tokens.specs.declared.Lexeme.{Lexeme}
-use Rattle.tokens.specs.declared.Found.{Found}
-use Rattle.tokens.specs.declared.Found.TheVariants as F
-use Rattle.tokens.specs.declared.Quoted.{Quoted}
-use Rattle.tokens.specs.declared.Quoted.TheVariants as Q
+use Rattle.tokens.specs.declared.Closed.{Closed}
 
--- an identifier's length
-abbrev pub length_of : Option (List ℕ) → ℕ
-length_of none = 0
-length_of (some x) = length x
+-- an identifier's end, with i bytes before
+abbrev pub past_name : ℕ → Maybe (List ℕ) → Option ℕ
+past_name i none = None
+past_name i (some x) = Some (i + length x)
 
 -- a string's end and the number of its characters, with i bytes and n characters before
-abbrev pub closed_at : ℕ → ℕ → Chars → Quoted
-closed_at i n unclosed = Q.Open
-closed_at i n (closed x m) = Q.Closed (i + m) (n + length x)
+abbrev pub closed_at : ℕ → ℕ → Chars → Option Closed
+closed_at i n unclosed = None
+closed_at i n (closed x m) = Some (record { end = i + m; characters = n + length x })
 
 -- a comment's end, with i bytes before
-abbrev pub past_at : ℕ → Option ℕ → Found
-past_at i none = F.Nothing
-past_at i (some n) = F.At (i + n)
+abbrev pub past_at : ℕ → Maybe ℕ → Option ℕ
+past_at i none = None
+past_at i (some n) = Some (i + n)
+
+-- a token that ends there, or a malformed one
+abbrev pub ended : ℕ → Token → Option ℕ → Lexeme
+ended at t None = record { token = T.Malformed; end = at + 1 }
+ended at t (Some e) = record { token = t; end = e }
 
 -- 2^32 for every number that is no macrodigit
 unfoldable pub capped : ℕ → ℕ

@@ -5,8 +5,10 @@ ghost use Rattle.std.specs.Prelude.{◌≡◌, true, false, ◌||◌, ◌+◌, �
 ghost use Rattle.meaning.specs.Goodness.{span};
 ghost use Rattle.text.specs.Classes.{is_digit};
 ghost use Rattle.text.specs.Tokens.{identifier, as_name, as_call, real, apart, indexed, quoted, as_string, commented, slashed as slashed_of};
-ghost use Rattle.classes.specs.Table.{Classes};
-ghost use Rattle.tokens.specs.Lexemes.{length_of, closed_at, past_at, capped, Sums, column_at, number_at, starred_at, Trimmed, dotted_at, lex_at, Tells};
+ghost use Rattle.classes.specs.Table.{number_of};
+ghost use Rattle.tokens.specs.Lexemes.{closed_at, past_at, past_name, capped, Sums, column_at, number_at, starred_at, Trimmed, dotted_at, lex_at, Tells, ended};
+
+use classes::Class;
 
 // A token. A name's identifier begins at the token's place, a call's one byte behind it; a string's characters begin there, too.
 #[derive(Clone, Copy)]
@@ -29,121 +31,102 @@ pub struct Lexeme {
     pub end: usize,
 }
 
-#[derive(Clone, Copy)]
-enum Found {
-    At(usize),
-    Nothing,
-}
-
 fn spanning(token: Token, end: usize) -> Lexeme
     ensures { (result.token ≡ token) × (result.end ≡ end) }
 {
     Lexeme { token, end }
 }
 
-// Where the identifier ends that begins at `at`; `at` where none does.
-fn identifier_end(classes: &[u8; 256], s: &[u8], at: usize) -> usize
-    requires { Classes classes.now × (length s.now ≤ 65536) × (at ≤ length s.now) }
-    ensures { result ≡ at + length_of (identifier (drop at s.now)) }
+// A token that ends there; a malformed one where it has no end.
+fn ending(at: usize, token: Token, end: Option<usize>) -> Lexeme
+    requires { at < 65536 }
+    ensures { result ≡ ended at token end }
 {
-    if s.len() <= at {
-        return at;
+    match end {
+        Some(end) => spanning(token, end),
+        None => spanning(Token::Malformed, at + 1),
     }
-    if classes::class_of(classes, s[at]) != classes::CAPITAL {
-        return at;
-    }
-    let end = classes::run_end(classes, s, at + 1, classes::CAPITAL, classes::DASH);
-    if end <= at + 15 { end } else { at }
 }
 
-fn name(classes: &[u8; 256], s: &[u8], at: usize) -> Lexeme
-    requires { Classes classes.now × (length s.now ≤ 65536) × (at < length s.now) }
+// Where the identifier ends that begins at `at`.
+fn identifier_end(s: &[u8], at: usize) -> Option<usize>
+    requires { (length s.now ≤ 65536) × (at ≤ length s.now) }
+    ensures { result ≡ past_name at (identifier (drop at s.now)) }
+{
+    if s.len() <= at || classes::class_of(s[at]) != Class::Capital {
+        return None;
+    }
+    let end = classes::run_end(s, at + 1, Class::Capital, Class::Dash);
+    if end <= at + 15 { Some(end) } else { None }
+}
+
+fn name(s: &[u8], at: usize) -> Lexeme
+    requires { (length s.now ≤ 65536) × (at < length s.now) }
     ensures { Tells s.now at result (as_name (identifier (drop at s.now))) }
 {
-    let end = identifier_end(classes, s, at);
-    if end == at {
-        return spanning(Token::Malformed, at + 1);
-    }
-    spanning(Token::Name, end)
+    ending(at, Token::Name, identifier_end(s, at))
 }
 
 // A call has its identifier right behind the bracket.
-fn call(classes: &[u8; 256], s: &[u8], at: usize) -> Lexeme
-    requires { Classes classes.now × (length s.now ≤ 65536) × (at < length s.now) }
+fn call(s: &[u8], at: usize) -> Lexeme
+    requires { (length s.now ≤ 65536) × (at < length s.now) }
     ensures { Tells s.now at result (as_call (identifier (drop (at + 1) s.now))) }
 {
-    let end = identifier_end(classes, s, at + 1);
-    if end == at + 1 {
-        return spanning(Token::Malformed, at + 1);
-    }
-    spanning(Token::Call, end)
+    ending(at, Token::Call, identifier_end(s, at + 1))
 }
 
 // Where a string ends, past its closing quote, and how many characters it has.
 #[derive(Clone, Copy)]
-enum Quoted {
-    Closed(usize, usize),
-    Open,
+struct Closed {
+    end: usize,
+    characters: usize,
 }
 
 // The string whose first byte after the opening quote q stands at `at`.
-fn quoted_from(classes: &[u8; 256], s: &[u8], at: usize, q: u8) -> Quoted
-    requires { Classes classes.now × (length s.now ≤ 65536) }
+fn quoted_from(s: &[u8], at: usize, q: u8) -> Option<Closed>
+    requires { length s.now ≤ 65536 }
     ensures { result ≡ closed_at at 0 (quoted q false (drop at s.now)) }
 {
-    let mut i = at;
-    let mut n: usize = 0;
+    let mut characters: usize = 0;
     let mut held = false;
-    while i < s.len() {
+    for i in at..s.len() {
         let b = s[i];
         if b == q {
-            i += 1;
-            if held {
-                n += 1;
-                held = false;
-                continue;
-            }
-            held = true;
+            characters += usize::from(held);
+            held = !held;
             continue;
         }
         if held {
-            return Quoted::Closed(i, n);
+            return Some(Closed { end: i, characters });
         }
-        if classes::class_of(classes, b) == classes::LINE_END {
-            return Quoted::Open;
+        if classes::class_of(b) == Class::LineEnd {
+            return None;
         }
-        n += 1;
-        i += 1;
+        characters += 1;
     }
     if held {
-        return Quoted::Closed(i, n);
+        return Some(Closed {
+            end: s.len(),
+            characters,
+        });
     }
-    Quoted::Open
+    None
 }
 
-fn string(classes: &[u8; 256], s: &[u8], at: usize) -> Lexeme
-    requires { Classes classes.now × (length s.now ≤ 65536) × (at < length s.now) }
+fn string(s: &[u8], at: usize) -> Lexeme
+    requires { (length s.now ≤ 65536) × (at < length s.now) }
     ensures { Tells s.now at result (as_string (quoted (get_or s.now at 0) false (drop (at + 1) s.now))) }
 {
-    let malformed = spanning(Token::Malformed, at + 1);
-    match quoted_from(classes, s, at + 1, s[at]) {
-        Quoted::Open => malformed,
-        Quoted::Closed(end, n) => {
-            if 255 < n {
-                return malformed;
-            }
-            spanning(Token::String, end)
-        }
+    match quoted_from(s, at + 1, s[at]) {
+        Some(closed) if closed.characters <= 255 => spanning(Token::String, closed.end),
+        _ => spanning(Token::Malformed, at + 1),
     }
 }
 
 fn digit(b: u8) -> u64
     ensures { (result ≡ b - 48) × (result ≤ 255) }
 {
-    if b < b'0' {
-        return 0;
-    }
-    (b - b'0') as u64
+    u64::from(b.saturating_sub(b'0'))
 }
 
 // One digit more; 2^32 stands for every number that is no macrodigit.
@@ -162,116 +145,87 @@ struct Sum {
     value: u64,
 }
 
-fn sum_up(classes: &[u8; 256], s: &[u8], at: usize) -> Sum
-    requires { Classes classes.now × (length s.now ≤ 65536) }
+fn sum_up(s: &[u8], at: usize) -> Sum
+    requires { length s.now ≤ 65536 }
     ensures { Sums s.now at result.end result.value }
 {
-    let mut i = at;
-    let mut v: u64 = 0;
-    while i < s.len() {
+    let mut value = 0;
+    for i in at..s.len() {
         let b = s[i];
-        if classes::class_of(classes, b) != classes::DIGIT {
-            return Sum { end: i, value: v };
+        if classes::class_of(b) != Class::Digit {
+            return Sum { end: i, value };
         }
-        v = add_digit(v, b);
-        i += 1;
+        value = add_digit(value, b);
     }
-    Sum { end: i, value: v }
+    Sum {
+        end: at.max(s.len()),
+        value,
+    }
 }
 
 // Whether what stands at `at`, behind digits, makes a real number of them.
-fn is_real(classes: &[u8; 256], s: &[u8], at: usize) -> bool
-    requires { Classes classes.now × (length s.now ≤ 65536) }
+fn is_real(s: &[u8], at: usize) -> bool
+    requires { length s.now ≤ 65536 }
     ensures { result ≡ real (drop at s.now) }
 {
-    if s.len() <= at {
+    if s.len() <= at || s.len() <= at + 1 {
         return false;
     }
-    if s.len() <= at + 1 {
-        return false;
-    }
-    let mark = s[at];
-    if mark != b'.' {
-        if mark != b'E' {
-            return false;
-        }
-    }
-    classes::class_of(classes, s[at + 1]) == classes::DIGIT
+    matches!(s[at], b'.' | b'E') && classes::class_of(s[at + 1]) == Class::Digit
 }
 
-fn number(classes: &[u8; 256], s: &[u8], at: usize) -> Lexeme
-    requires { Classes classes.now × (length s.now ≤ 65536) × (at < length s.now) × (is_digit (get_or s.now at 0) ≡ true) }
+fn number(s: &[u8], at: usize) -> Lexeme
+    requires { (length s.now ≤ 65536) × (at < length s.now) × (is_digit (get_or s.now at 0) ≡ true) }
     ensures { Tells s.now at result (number_at s.now at) }
 {
-    let sum = sum_up(classes, s, at);
-    let end = sum.end;
-    let value = sum.value;
-    if is_real(classes, s, end) {
-        return spanning(Token::Malformed, at + 1);
-    }
-    if 4294967295 < value {
+    let Sum { end, value } = sum_up(s, at);
+    if is_real(s, end) || 4294967295 < value {
         return spanning(Token::Malformed, at + 1);
     }
     spanning(Token::Macrodigit(value as u32), end)
 }
 
 // Where the comment ends whose first byte behind slash and star stands at `at`.
-fn comment_end(s: &[u8], at: usize) -> Found
+fn comment_end(s: &[u8], at: usize) -> Option<usize>
     requires { length s.now ≤ 65536 }
     ensures { result ≡ past_at at (commented false (drop at s.now)) }
 {
-    let mut i = at;
     let mut held = false;
-    while i < s.len() {
+    for i in at..s.len() {
         let b = s[i];
-        i += 1;
-        if held {
-            if b == b'/' {
-                return Found::At(i);
-            }
+        if held && b == b'/' {
+            return Some(i + 1);
         }
         held = b == b'*';
     }
-    Found::Nothing
+    None
 }
 
 fn slashed(s: &[u8], at: usize) -> Lexeme
     requires { (length s.now ≤ 65536) × (at < length s.now) }
     ensures { Tells s.now at result (slashed_of (drop (at + 1) s.now)) }
 {
-    let malformed = spanning(Token::Malformed, at + 1);
-    if s.len() <= at + 1 {
-        return malformed;
+    if s.len() <= at + 1 || s[at + 1] != b'*' {
+        return spanning(Token::Malformed, at + 1);
     }
-    if s[at + 1] != b'*' {
-        return malformed;
-    }
-    match comment_end(s, at + 2) {
-        Found::At(end) => spanning(Token::Gap, end),
-        Found::Nothing => malformed,
-    }
+    ending(at, Token::Gap, comment_end(s, at + 2))
 }
 
-fn starts_line(classes: &[u8; 256], s: &[u8], at: usize) -> bool
-    requires { Classes classes.now × (at < length s.now) }
+fn starts_line(s: &[u8], at: usize) -> bool
+    requires { (at < length s.now) }
     ensures { result ≡ column_at s.now at }
 {
-    if at == 0 {
-        return true;
-    }
-    classes::class_of(classes, s[at - 1]) == classes::LINE_END
+    at == 0 || classes::class_of(s[at - 1]) == Class::LineEnd
 }
 
 // A star in the first column begins a comment up to the line's end.
-fn starred(classes: &[u8; 256], s: &[u8], at: usize) -> Lexeme
-    requires { Classes classes.now × (length s.now ≤ 65536) × (at < length s.now) }
+fn starred(s: &[u8], at: usize) -> Lexeme
+    requires { (length s.now ≤ 65536) × (at < length s.now) }
     ensures { Tells s.now at result (starred_at s.now at) }
 {
-    if starts_line(classes, s, at) {
-        return spanning(
-            Token::Gap,
-            classes::run_end(classes, s, at + 1, 0, classes::STAR),
-        );
+    if starts_line(s, at) {
+        let end = classes::run_end(s, at + 1, Class::Other, Class::Star);
+        return spanning(Token::Gap, end);
     }
     spanning(Token::Malformed, at + 1)
 }
@@ -281,73 +235,65 @@ fn past_zeros(s: &[u8], start: usize, end: usize) -> usize
     requires { (start < end) × (end ≤ length s.now) × (length s.now ≤ 65536) }
     ensures { Trimmed s.now start end result }
 {
-    let mut i = start;
-    while i + 1 < end {
+    for i in start..end - 1 {
         if s[i] != b'0' {
             return i;
         }
-        i += 1;
     }
-    i
+    end - 1
 }
 
-fn is_letter(class: u8) -> bool
-    ensures { result ≡ span 3 5 class }
+fn is_letter(class: Class) -> bool
+    ensures { result ≡ span 3 5 (number_of class) }
 {
-    classes::CAPITAL <= class && class <= classes::TYPE
+    matches!(class, Class::Capital | Class::Small | Class::Typed)
 }
 
 // The index behind a variable's dot: a number, or an identifier whose first letter is in either case.
-fn dotted(classes: &[u8; 256], s: &[u8], at: usize) -> Lexeme
-    requires { Classes classes.now × (length s.now ≤ 65536) × (at + 1 < length s.now) }
+fn dotted(s: &[u8], at: usize) -> Lexeme
+    requires { (length s.now ≤ 65536) × (at + 1 < length s.now) }
     ensures { Tells s.now at result (dotted_at s.now at) }
 {
     let malformed = spanning(Token::Malformed, at + 1);
     let start = at + 2;
-    let end = classes::run_end(classes, s, start, classes::CAPITAL, classes::DASH);
+    let end = classes::run_end(s, start, Class::Capital, Class::Dash);
     if end == start {
         return malformed;
     }
-    if classes::run_end(classes, s, start, classes::DIGIT, classes::DIGIT) == end {
+    if classes::run_end(s, start, Class::Digit, Class::Digit) == end {
         let first = past_zeros(s, start, end);
         return spanning(Token::Variable(first, end - first), end);
     }
     if start + 15 < end {
         return malformed;
     }
-    if is_letter(classes::class_of(classes, s[start])) {
+    if is_letter(classes::class_of(s[start])) {
         return spanning(Token::Variable(start, end - start), end);
     }
     malformed
 }
 
 // Nothing of an identifier follows at once, but another variable may.
-fn is_apart(classes: &[u8; 256], s: &[u8], at: usize) -> bool
-    requires { Classes classes.now × (length s.now ≤ 65536) }
+fn is_apart(s: &[u8], at: usize) -> bool
+    requires { length s.now ≤ 65536 }
     ensures { result ≡ apart (drop at s.now) }
 {
-    if s.len() <= at {
-        return true;
-    }
-    let class = classes::class_of(classes, s[at]);
-    if class == classes::TYPE {
-        return true;
-    }
-    if class < classes::CAPITAL {
-        return true;
-    }
-    classes::DASH < class
+    s.len() <= at
+        || !matches!(
+            classes::class_of(s[at]),
+            Class::Capital | Class::Small | Class::Digit | Class::Dash
+        )
 }
 
-fn is_index(class: u8) -> bool
-    ensures { result ≡ (span 3 3 class || span 6 6 class) }
+fn is_index(class: Class) -> bool
+    ensures { result ≡ (span 3 3 (number_of class) || span 6 6 (number_of class)) }
 {
-    class == classes::CAPITAL || class == classes::DIGIT
+    matches!(class, Class::Capital | Class::Digit)
 }
 
 // A variable has its index behind a dot, or it is one capital or digit.
-fn variable(classes: &[u8; 256], s: &[u8], at: usize) -> Lexeme
-    requires { Classes classes.now × (length s.now ≤ 65536) × (at < length s.now) }
+fn variable(s: &[u8], at: usize) -> Lexeme
+    requires { (length s.now ≤ 65536) × (at < length s.now) }
     ensures { Tells s.now at result (indexed (get_or s.now at 0) (drop (at + 1) s.now)) }
 {
     let malformed = spanning(Token::Malformed, at + 1);
@@ -355,32 +301,29 @@ fn variable(classes: &[u8; 256], s: &[u8], at: usize) -> Lexeme
         return malformed;
     }
     if s[at + 1] == b'.' {
-        return dotted(classes, s, at);
+        return dotted(s, at);
     }
-    if is_index(classes::class_of(classes, s[at + 1])) {
-        if is_apart(classes, s, at + 2) {
-            return spanning(Token::Variable(at + 1, 1), at + 2);
-        }
+    if is_index(classes::class_of(s[at + 1])) && is_apart(s, at + 2) {
+        return spanning(Token::Variable(at + 1, 1), at + 2);
     }
     malformed
 }
 
 // What begins at a place, by the class of its byte.
-pub fn lex(classes: &[u8; 256], s: &[u8], at: usize) -> Lexeme
-    requires { Classes classes.now × (length s.now ≤ 65536) × (at < length s.now) }
+pub fn lex(s: &[u8], at: usize) -> Lexeme
+    requires { (length s.now ≤ 65536) × (at < length s.now) }
     ensures { Tells s.now at result (lex_at s.now at) }
 {
-    match classes::class_of(classes, s[at]) {
-        classes::BLANK => spanning(Token::Gap, at + 1),
-        classes::SLASH => slashed(s, at),
-        classes::CAPITAL => name(classes, s, at),
-        classes::TYPE => variable(classes, s, at),
-        classes::DIGIT => number(classes, s, at),
-        classes::QUOTE => string(classes, s, at),
-        classes::SIGN => spanning(Token::Sign, at + 1),
-        classes::CALL => call(classes, s, at),
-        classes::STAR => starred(classes, s, at),
-        classes::LINE_END => spanning(Token::Gap, at + 1),
-        _ => spanning(Token::Malformed, at + 1),
+    match classes::class_of(s[at]) {
+        Class::Blank | Class::LineEnd => spanning(Token::Gap, at + 1),
+        Class::Slash => slashed(s, at),
+        Class::Capital => name(s, at),
+        Class::Typed => variable(s, at),
+        Class::Digit => number(s, at),
+        Class::Quote => string(s, at),
+        Class::Sign => spanning(Token::Sign, at + 1),
+        Class::Call => call(s, at),
+        Class::Star => starred(s, at),
+        Class::Other | Class::Small | Class::Dash => spanning(Token::Malformed, at + 1),
     }
 }

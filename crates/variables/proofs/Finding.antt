@@ -15,8 +15,9 @@ use Rattle.meaning.proofs.Truth.{is_true, is_false, see}
 use Rattle.text.specs.Numbering.{Key, number_of, has}
 use Rattle.text.proofs.Names.{adding-known, adding_new}
 use Rattle.classes.specs.Table.{part}
-use Rattle.variables.specs.declared.Variable.{Variable}
-use Rattle.variables.specs.Variables.{key_of, keys_from, keys_of, Inside, Found, Added, Numbered}
+use Rattle.std.specs.Prelude.{Result, Ok, Err}
+use Rattle.variables.specs.Variables.{key_of, keys_from, keys_of, Inside, Added, Numbered}
+use Rattle.variables.specs.Tables.{Found}
 
 -- among keys whose first one is the one looked for, has another kind, or has its kind and is another
 module _ (x y : Key) (ys : List Key) where
@@ -72,18 +73,18 @@ module _ {s kinds starts sizes : List ℕ} {m j n k : ℕ} {x : List ℕ} (h : S
         let q = rw (rest_is l, a) at h.number in
         record { number = omega arith; known = rw (rest_is l, c) at h.known; passed = omega arith }
 
-    pub this_one : b ≡ true → Found (k ∷ x) (keys_of s kinds starts sizes m) m (record { number = n; count = m })
+    pub this_one : b ≡ true → Found (k ∷ x) (keys_of s kinds starts sizes m) (Ok n)
     this_one d =
         let (a, c) = number_this (k ∷ x) key rest (same_is ∙ d) in
         let q = rw (rest_is l, a) at h.number in
-        record { number = omega arith; count = rw (← h.known, rest_is l, c) }
+        record { is = rw (← h.known, rest_is l, c) (ap {B = Result ℕ ℕ} (λ i. Ok i) (omega arith)) }
 
-  pub none_is : m ≤ j → Found (k ∷ x) (keys_of s kinds starts sizes m) m (record { number = n; count = m + 1 })
+  pub none_is : m ≤ j → Found (k ∷ x) (keys_of s kinds starts sizes m) (Err n)
   unfolding keys_from number_of has
   none_is l =
       let e : m - j ≡ 0 = omega arith in
       let q : n + 0 ≡ number_of (k ∷ x) (keys_of s kinds starts sizes m) = rw (e, keys_from) at h.number in
-      record { number = omega arith; count = rw (← h.known, e, keys_from) }
+      record { is = rw (← h.known, e, keys_from) (ap {B = Result ℕ ℕ} (λ i. Err i) (omega arith)) }
 
 -- the variable of kind k, whose index is n bytes from a on, as entry m
 module _ {s kinds starts sizes : List ℕ} {m : ℕ} (old : Inside s kinds starts sizes m) (k a n : ℕ)
@@ -122,38 +123,42 @@ module _ {s kinds starts sizes : List ℕ} {m : ℕ} (old : Inside s kinds start
       }
 
 -- the tables after a variable was looked for, and added where it was new
-module _ {s kinds starts sizes : List ℕ} {m : ℕ} (old : Inside s kinds starts sizes m) (k a n : ℕ) {r : Variable}
-    (found : Found (k ∷ part s a n) (keys_of s kinds starts sizes m) m r) where
-  pub numbered_old : r.count ≤ m → Numbered s kinds starts sizes m (k ∷ part s a n) kinds starts sizes r
-  numbered_old l =
+module _ {s kinds starts sizes : List ℕ} {m : ℕ} (old : Inside s kinds starts sizes m) (k a n r : ℕ) where
+  pub numbered_old : Found (k ∷ part s a n) (keys_of s kinds starts sizes m) (Ok r) → Numbered s kinds starts sizes m (k ∷ part s a n) kinds starts sizes r m
+  numbered_old found =
       elim (see (has (k ∷ part s a n) (keys_of s kinds starts sizes m))) [
         | is_true h ↦
-            let c : r.count ≡ m = rw h at found.count in
             record {
-              number = found.number;
-              keys = rw c (sym (adding-known _ _ h));
-              inside = rw c old;
+              number = (let e = rw h at found.is in cc);
+              keys = sym (adding-known _ _ h);
+              inside = old;
               least = omega arith;
               most = omega arith;
               long = (refl, refl, refl);
             }
-        | is_false h ↦ let c : r.count ≡ m + 1 = rw h at found.count in absurd (omega arith)
+        | is_false h ↦ absurd (let e = rw h at found.is in cc)
       ]
 
-  pub numbered_new : {kinds' starts' sizes' : List ℕ} → m < r.count → a + n ≤ length s
+  pub numbered_new : Found (k ∷ part s a n) (keys_of s kinds starts sizes m) (Err r) → {kinds' starts' sizes' : List ℕ} → a + n ≤ length s
       → (m < length kinds) × (m < length starts) × (m < length sizes) → Added m k a n kinds starts sizes kinds' starts' sizes'
-      → Numbered s kinds starts sizes m (k ∷ part s a n) kinds' starts' sizes' r
-  numbered_new l inside room b =
+      → Numbered s kinds starts sizes m (k ∷ part s a n) kinds' starts' sizes' r (m + 1)
+  numbered_new found inside room b =
       elim (see (has (k ∷ part s a n) (keys_of s kinds starts sizes m))) [
-        | is_true h ↦ let c : r.count ≡ m = rw h at found.count in absurd (omega arith)
+        | is_true h ↦ absurd (let e = rw h at found.is in cc)
         | is_false h ↦
-            let c : r.count ≡ m + 1 = rw h at found.count in
             record {
-              number = found.number;
-              keys = rw (b.its_kind, b.its_start, b.its_size, c, add-one m, adding_new _ _ h) (keys_more old k a n room 0 m (omega arith));
-              inside = rw (b.its_kind, b.its_start, b.its_size, c) (inside_more old k a n room inside);
+              number = (let e = rw h at found.is in cc);
+              keys = rw (b.its_kind, b.its_start, b.its_size, add-one m, adding_new _ _ h) (keys_more old k a n room 0 m (omega arith));
+              inside = rw (b.its_kind, b.its_start, b.its_size) (inside_more old k a n room inside);
               least = omega arith;
               most = omega arith;
               long = (ap length b.its_kind ∙ simp length-set, ap length b.its_start ∙ simp length-set, ap length b.its_size ∙ simp length-set);
             }
       ]
+
+-- the first n of m variables
+pub inside_less : {s kinds starts sizes : List ℕ} {m : ℕ} (n : ℕ) → n ≤ m → Inside s kinds starts sizes m → Inside s kinds starts sizes n
+inside_less n l h = record { room = (omega (arith, h.room.0), omega (arith, h.room.1), omega (arith, h.room.2)); each = λ j i. h.each j (omega arith) }
+
+pub none_inside : (s kinds starts sizes : List ℕ) → Inside s kinds starts sizes 0
+none_inside s kinds starts sizes = record { room = (omega arith, omega arith, omega arith); each = λ j h. absurd (omega arith) }

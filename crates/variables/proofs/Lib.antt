@@ -1,3 +1,4 @@
 pub mod Parts
 pub mod Finding
 pub mod Few
+pub mod Entries

@@ -1,25 +1,22 @@
-use native.Mathlib.Omega.{arith}
-use Rattle.classes.proofs.Bytes.{capital_fits, spelling_low, spelling_high, spelling_capital, spelling_dash, spelling_plain}
+use mathlib.Core.Path.{refl}
+use Rattle.classes.proofs.Bytes.{spelling_capital, spelling_same, spelling_dash, spelling_outside, capital_fits, same_in}
+use Rattle.classes.proofs.Order.{no_name}
 use borrow.Author.Rules.{rules}
 use Rattle.classes.proofs.spelling_of.Goals as goal
 
-pub returns-then-k-lt-CAPITAL : goal.returns-then-k-lt-CAPITAL
-returns-then-k-lt-CAPITAL c = spelling_low _ _ c.class_of-k.ensures c.if-k-lt-CAPITAL.true
-
-pub returns-then-k-gt-DASH : goal.returns-then-k-gt-DASH
-returns-then-k-gt-DASH c = spelling_high _ _ c.class_of-k.ensures c.if-k-lt-CAPITAL.false c.if-k-gt-DASH.true
-
 pub overflow_add-result : goal.overflow_add-result
-overflow_add-result c =
-    record { fits = omega (arith, capital_fits c.args.b _ c.class_of-k.ensures (search rules) c.if-k-eq-CAPITAL.true) }
+overflow_add-result c = record { fits = capital_fits c.args.b 3 c.in-Capital.ensures (search rules) refl }
 
-pub returns-then-k-eq-CAPITAL : goal.returns-then-k-eq-CAPITAL
-returns-then-k-eq-CAPITAL c = spelling_capital _ _ c.class_of-k.ensures c.if-k-eq-CAPITAL.true
+pub returns-in-Capital : goal.returns-in-Capital
+returns-in-Capital c = spelling_capital c.args.b 3 c.in-Capital.ensures (search rules) refl
 
-pub returns-then-b-eq95 : goal.returns-then-b-eq95
-returns-then-b-eq95 c =
-    spelling_dash _ _ c.class_of-k.ensures c.if-k-lt-CAPITAL.false c.if-k-gt-DASH.false c.if-k-eq-CAPITAL.false c.if-b-eq95.true
+pub returns-in-Small : goal.returns-in-Small
+returns-in-Small c = spelling_same c.args.b _ c.class_of.ensures (search rules) (same_in _ c.in-Small.is)
 
-pub returns-else-b-eq95 : goal.returns-else-b-eq95
-returns-else-b-eq95 c =
-    spelling_plain _ _ c.class_of-k.ensures c.if-k-lt-CAPITAL.false c.if-k-gt-DASH.false c.if-k-eq-CAPITAL.false c.if-b-eq95.false
+pub returns-in-Dash : goal.returns-in-Dash
+returns-in-Dash c = spelling_dash c.args.b 7 c.in-Dash.ensures (search rules) refl
+
+pub returns-in_default : goal.returns-in_default
+returns-in_default c =
+    let n = c.in_default in
+    spelling_outside c.args.b _ c.class_of.ensures (search rules) (no_name _ n.not-Capital n.not-Small n.not-Typed n.not-Digit n.not-Dash)

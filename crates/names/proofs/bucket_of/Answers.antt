@@ -7,7 +7,7 @@ pub overflow_cast-h : goal.overflow_cast-h
 overflow_cast-h c = omega (arith, c.type_inv.text c.args.at)
 
 pub loop-i-init : goal.loop-i-init
-loop-i-init c = (hash_start _ _ c.requires.1, omega (arith, c.type_inv.text c.args.at))
+loop-i-init c = (hash_start _ _ c.requires, omega (arith, c.type_inv.text c.args.at))
 
 pub returns-then-x-eq0 : goal.returns-then-x-eq0
 returns-then-x-eq0 c =

@@ -1,6 +1,5 @@
 use mathlib.Core.Path.{◌≡◌}
-use Prim.Native.Nat.{◌<◌, ◌-◌}
-use lib.ListN.{length}
+use Prim.Native.Nat.{◌<◌}
 use Rattle.names.specs.Names.{key_at}
 use Rattle.names.specs.Index.{bucket}
 use Rattle.names.proofs.Spelling.{hashed}
@@ -8,6 +7,3 @@ use Rattle.names.proofs.bucket_of.Given as goal
 
 abbrev pub invariant-loop-i : goal.invariant-loop-i
 invariant-loop-i l = (hashed l.text l.h l.i ≡ bucket (key_at l.text l.at)) × (l.h < 8192)
-
-abbrev pub decreases-loop-i : goal.decreases-loop-i
-decreases-loop-i l = length l.text - l.i

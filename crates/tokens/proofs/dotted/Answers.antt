@@ -14,14 +14,14 @@ pub past_zeros-first-requires : goal.past_zeros-first-requires
 past_zeros-first-requires c =
     let e = c.run_end-end.ensures in (
       omega (arith, e, c.if-end-start.false),
-      omega (arith, e, run_most in_name c.args.s.now (c.args.at + 2) (omega (arith, c.requires.2))),
-      c.requires.1,
+      omega (arith, e, run_most in_name c.args.s.now (c.args.at + 2) (omega arith)),
+      c.requires.0,
     )
 
 pub returns-then-run_end-end : goal.returns-then-run_end-end
 returns-then-run_end-end c =
     tells _ _ c.spanning.ensures
-    (dot_number _ _ _ c.run_end-end.ensures c.if-end-start.false _ c.run_end.ensures c.if-run_end-end.true _ c.past_zeros-first.ensures (omega (arith, c.requires.2)))
+    (dot_number _ _ _ c.run_end-end.ensures c.if-end-start.false _ c.run_end.ensures c.if-run_end-end.true _ c.past_zeros-first.ensures (omega arith))
 
 pub returns-then-start-end : goal.returns-then-start-end
 returns-then-start-end c =
@@ -38,7 +38,7 @@ pub returns-then-is_letter : goal.returns-then-is_letter
 returns-then-is_letter c =
     tells _ _ c.spanning-then-is_letter.ensures
     (dot_letter _ _ _ c.run_end-end.ensures c.if-end-start.false _ c.run_end.ensures c.if-run_end-end.false c.if-start-end.false
-    (by_span 3 5 _ _ c.class_of.ensures ∙ sym c.is_letter.ensures ∙ c.if-is_letter.true) (omega (arith, c.requires.2)))
+    (by_span 3 5 _ _ c.class_of.ensures ∙ sym c.is_letter.ensures ∙ c.if-is_letter.true) (omega arith))
 
 pub returns : goal.returns
 returns c =

@@ -1,8 +1,8 @@
-use Rattle.tokens.proofs.Comments.{first_class, either_class}
+use Rattle.tokens.proofs.Comments.{index_yes, index_no}
 use Rattle.tokens.proofs.is_index.Goals as goal
 
-pub returns-then-class-eq-CAPITAL : goal.returns-then-class-eq-CAPITAL
-returns-then-class-eq-CAPITAL c = first_class 3 6 _ c.if-class-eq-CAPITAL.true
+pub returns-in-Capital : goal.returns-in-Capital
+returns-in-Capital c = index_yes _ c.in-Capital.is
 
-pub returns-else-class-eq-CAPITAL : goal.returns-else-class-eq-CAPITAL
-returns-else-class-eq-CAPITAL c = either_class 3 6 _ c.if-class-eq-CAPITAL.false
+pub returns-in_default : goal.returns-in_default
+returns-in_default c = index_no _ c.in_default.not-Capital c.in_default.not-Digit

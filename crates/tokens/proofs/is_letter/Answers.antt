@@ -1,8 +1,8 @@
-use Rattle.tokens.proofs.Comments.{span_below, span-within}
+use Rattle.tokens.proofs.Comments.{letter_yes, letter_no}
 use Rattle.tokens.proofs.is_letter.Goals as goal
 
-pub returns-then-class-ge-CAPITAL : goal.returns-then-class-ge-CAPITAL
-returns-then-class-ge-CAPITAL c = span-within 3 5 _ c.if-class-ge-CAPITAL.true
+pub returns-in-Capital : goal.returns-in-Capital
+returns-in-Capital c = letter_yes _ c.in-Capital.is
 
-pub returns-else-class-ge-CAPITAL : goal.returns-else-class-ge-CAPITAL
-returns-else-class-ge-CAPITAL c = span_below 3 5 _ c.if-class-ge-CAPITAL.false
+pub returns-in_default : goal.returns-in_default
+returns-in_default c = letter_no _ c.in_default.not-Capital c.in_default.not-Small c.in_default.not-Typed

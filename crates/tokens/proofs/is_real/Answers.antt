@@ -1,21 +1,27 @@
-use Rattle.tokens.proofs.Comments.{real_out, real_last, real_no, real_dot, real_power}
+use mathlib.Core.Path.{◌∙◌}
+use Rattle.classes.specs.declared.Class.TheVariants.{Digit}
+use Rattle.classes.proofs.Order.{eq_by}
+use Rattle.tokens.proofs.Comments.{real_out, real_last, real_no, real_mark}
 use Rattle.tokens.proofs.is_real.Goals as goal
-use Rattle.tokens.proofs.is_real.Goals.{then-mark-ne46+else-mark-ne69, else-mark-ne46}
+use Rattle.tokens.proofs.is_real.Goals.{then-s-at-via-then-s-at, then-s-at-via-else-s-at+then-s-at-2, in-46, in_default}
 
 pub returns-then-s-at : goal.returns-then-s-at
-returns-then-s-at c = real_out _ _ c.if-s-at.true
+returns-then-s-at c =
+    elim c.then-s-at.branch [
+      | then-s-at-via-then-s-at w ↦ real_out _ _ w.if-s-at.true
+      | then-s-at-via-else-s-at+then-s-at-2 w ↦ real_last _ _ w.if-s-at.false w.if-s-at-2.true
+    ]
 
-pub returns-then-s-at-2 : goal.returns-then-s-at-2
-returns-then-s-at-2 c = real_last _ _ c.if-s-at.false c.if-s-at-2.true
+pub returns-then-matches : goal.returns-then-matches
+returns-then-matches c =
+    elim c.match-matches.branch [
+      | in-46 w ↦ eq_by _ Digit c.eq.ensures ∙ real_mark _ _ c.if-s-at-2.false w.in-46.is _ c.class_of.ensures
+      | in_default w ↦ cc (w.matches-is, c.if-matches.true)
+    ]
 
-pub returns-then-mark-ne69 : goal.returns-then-mark-ne69
-returns-then-mark-ne69 c = real_no _ _ c.if-s-at-2.false c.if-mark-ne46.true c.if-mark-ne69.true
-
-pub returns : goal.returns
-returns c =
-    elim c.if-mark-ne46.branch [
-      | then-mark-ne46+else-mark-ne69 w ↦
-          real_power _ _ c.if-s-at-2.false w.if-mark-ne46.true w.if-mark-ne69.false _ c.class_of.ensures
-      | else-mark-ne46 w ↦
-          real_dot _ _ c.if-s-at-2.false w.if-mark-ne46.false _ c.class_of.ensures
+pub returns-else-matches : goal.returns-else-matches
+returns-else-matches c =
+    elim c.match-matches.branch [
+      | in-46 w ↦ cc (w.matches-is, c.if-matches.false)
+      | in_default w ↦ c.if-matches.false ∙ real_no _ _ c.if-s-at-2.false w.in_default.in_default-own.rest.1
     ]

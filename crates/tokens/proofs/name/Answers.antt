@@ -1,8 +1,5 @@
-use Rattle.tokens.proofs.Lexing.{tells, tells_wrong, name_none, name_some}
+use Rattle.tokens.proofs.Lexing.{name_told}
 use Rattle.tokens.proofs.name.Goals as goal
 
-pub returns-then-end-at : goal.returns-then-end-at
-returns-then-end-at c = tells_wrong c.spanning.ensures (name_none _ _ _ c.identifier_end-end.ensures c.if-end-at.true)
-
 pub returns : goal.returns
-returns c = tells _ _ c.spanning-2.ensures (name_some _ _ _ c.identifier_end-end.ensures c.if-end-at.false)
+returns c = name_told _ _ c.identifier_end.ensures c.ending.ensures

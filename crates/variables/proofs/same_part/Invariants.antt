@@ -1,10 +1,7 @@
 use mathlib.Core.Path.{◌≡◌}
-use Prim.Native.Nat.{◌+◌, ◌-◌, ◌≤◌}
+use Prim.Native.Nat.{◌+◌, ◌-◌}
 use Rattle.variables.proofs.Parts.{alike}
 use Rattle.variables.proofs.same_part.Given as goal
 
 abbrev pub invariant-loop-k : goal.invariant-loop-k
-invariant-loop-k l = (alike l.text (l.a + l.k) (l.n - l.k) (l.b + l.k) (l.m - l.k) ≡ alike l.text l.a l.n l.b l.m) × (l.k ≤ l.n)
-
-abbrev pub decreases-loop-k : goal.decreases-loop-k
-decreases-loop-k l = l.n - l.k
+invariant-loop-k l = alike l.text (l.a + l.k) (l.n - l.k) (l.b + l.k) (l.m - l.k) ≡ alike l.text l.a l.n l.b l.m
