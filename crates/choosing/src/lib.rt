@@ -18,6 +18,7 @@ pub const SPOTS: usize = 8192;
 
 // A table of a program's functions, filled as far as it was needed: up to where the program is read, and in each place one more than where
 // the header begins that came first to it, or 0.
+#[derive(Drop)]
 pub struct Index {
     pub read: usize,
     pub spots: [u16; SPOTS],

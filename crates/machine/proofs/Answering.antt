@@ -21,7 +21,7 @@ use Rattle.checking.specs.declared.Check.{Check}
 use Rattle.checking.specs.declared.Check.TheVariants.{Good, Bad}
 use Rattle.running.specs.Running.{Checked}
 use Rattle.running.proofs.Start.{scratch_size}
-use Rattle.running.proofs.End.{cleared}
+use Rattle.running.proofs.Closing.{cleared}
 use Rattle.machine.specs.Codes.{Sized}
 
 -- WHAT A CHECK SAYS
