@@ -2,6 +2,8 @@
 use mathlib.Core.Path.{◌≡◌, refl, sym, ◌∙◌, ap, subst}
 use mathlib.Core.Bool.{Bool, true, false, ◌&&◌, cond}
 use mathlib.Core.Logic.{◌⊎◌, inl, inr}
+use Rattle.std.specs.Prelude.{Some, None}
+use Rattle.building.specs.declared.Extent.{Extent}
 use mathlib.Core.List.{List, [], ◌∷◌, ◌++◌, append_assoc, append-nil}
 use Prim.Native.Nat.{ℕ, ◌+◌, ◌-◌, ◌≤◌, ◌<◌}
 use native.Mathlib.Omega.{arith}
@@ -37,14 +39,20 @@ pub record Measuring (p : List ℕ) (from to : ℕ) (f b : List ℕ) (limit at n
   pub few : calls ≤ at
   pub pivot_is : Pivot p from to pivot
 
+none_some : {A B : Type 0} {x : A} → None ≡ Some x → B
+none_some e = never (cc)
+
+some_none : {A B : Type 0} {x : A} → Some x ≡ None → B
+some_none e = never (cc)
+
 pub measuring_start : (p : List ℕ) (from to : ℕ) (f b : List ℕ) (limit : ℕ) → from ≤ to → Whole (side_of p from to) → Ready f b (side_of p from to) → Measuring p from to f b limit from 0 0 to
 measuring_start p from to f b limit h w r =
     record { done = []; parts = refl; place = omega (arith, size-nil); upto = h; whole = w; ready = r; n_so = omega arith; room = omega arith; calls_so = omega arith; few = omega arith; pivot_is = at_end }
 
 module _ (p : List ℕ) (from to : ℕ) (f b : List ℕ) (limit at n calls pivot : ℕ) (i : Measuring p from to f b limit at n calls pivot) where
   module _ (len : ℕ) (w : Walk p at to f b len) where
-    pub measured_no : limit - n < span_of b (take len (drop at p)) → {m k q : ℕ} → Measured p from to b limit false m k q
-    measured_no h = record { yes = λ z. never (cc); no = λ _. (let r = i.room in omega (arith, i.n_so, spans_now w)) }
+    pub measured_no : limit - n < span_of b (take len (drop at p)) → Measured p from to b limit None
+    measured_no h = record { yes = λ x z. none_some z; no = λ _. (let r = i.room in omega (arith, i.n_so, spans_now w)) }
 
     pub measuring_more : (calls' pivot' : ℕ) → calls' ≡ cond (is_call (get_or p at 0 ∷ [])) (calls + 1) calls → (pivot' ≡ pivot) ⊎ ((is_variable (get_or p at 0 ∷ []) ≡ true) × (pivot' ≡ at))
         → span_of b (take len (drop at p)) ≤ limit - n → Measuring p from to f b limit (at + len) (n + span_of b (take len (drop at p))) calls' pivot'
@@ -88,10 +96,16 @@ module _ (p : List ℕ) (from to : ℕ) (f b : List ℕ) (limit at n calls pivot
             at_variable i.done (take len (drop at p)) (side_of p (at + len) to) (i.parts ∙ ap {B = List Element} (λ l. i.done ++ l) w.is) (e ∙ i.place)
             (variable_by_kind (take len (drop at p)) (get_or p at 0) w.sort ∙ v)
 
-  pub measured_all : to ≤ at → to ≤ length p → Measured p from to b limit true n calls pivot
+  pub measured_all : to ≤ at → to ≤ length p → Measured p from to b limit (Some (record { size = n; calls = calls; pivot = pivot }))
   measured_all h l =
       let (s0, c0) = nothing_left p at to b h l in
-      record { yes = λ _. (omega (arith, i.n_so, s0), i.room, omega (arith, i.calls_so, c0), i.pivot_is); no = λ z. never (cc) }
+      record { yes = found_as (omega (arith, i.n_so, s0), i.room, omega (arith, i.calls_so, c0), i.pivot_is); no = λ z. some_none z }
+    where
+      found_as : (spans_in : (n ≡ spans b (side_of p from to)) × (n ≤ limit) × (calls ≡ calls_of (side_of p from to)) × Pivot p from to pivot) → (x : Extent) → Some (record { size = n; calls = calls; pivot = pivot }) ≡ Some x
+          → (x.size ≡ spans b (side_of p from to)) × (x.size ≤ limit) × (x.calls ≡ calls_of (side_of p from to)) × Pivot p from to x.pivot
+      found_as k x z =
+          let e : ◌≡◌ {A = Extent} (record { size = n; calls = calls; pivot = pivot }) x = cc in
+          subst (λ (x : Extent). (x.size ≡ spans b (side_of p from to)) × (x.size ≤ limit) × (x.calls ≡ calls_of (side_of p from to)) × Pivot p from to x.pivot) e k
 
 -- BUILT
 pub record Building (p : List ℕ) (from to : ℕ) (f b out₀ : List ℕ) (start : ℕ) (out : List ℕ) (at n : ℕ) : Type 0 where

@@ -1,14 +1,20 @@
 -- A right side with the values put in, in bytes.
-use Rattle.std.specs.Prelude.{◌≡◌, Bool, true, false, cond, List, [], ◌∷◌, ◌++◌, ℕ, suc, ◌+◌, ◌-◌, ◌≤◌, ◌<◌, length, get_or, take, drop}
+use Rattle.std.specs.Prelude.{◌≡◌, true, false, cond, Option, Some, None, List, [], ◌∷◌, ◌++◌, ℕ, suc, ◌+◌, ◌-◌, ◌≤◌, ◌<◌, length, get_or, take, drop}
 use Rattle.meaning.specs.Elements.{Element, kind, cut, is_variable, size}
 use Rattle.meaning.specs.Machine.{holds}
 use Rattle.meaning.proofs.Cutting.{Whole}
 use Rattle.kinds.specs.Slots.{slot_of, value_of}
 use Rattle.scanning.specs.State.{is_call}
+use Rattle.building.specs.declared.Extent.{Extent}
+use Rattle.building.specs.declared.Side.{Side}
 
 -- the elements of the bytes from a up to e
 unfoldable pub side_of : List ℕ → ℕ → ℕ → List Element
 side_of p a e = cut 0 (drop a (take e p))
+
+-- the same of a side
+abbrev pub right_of : List ℕ → Side → List Element
+right_of p s = side_of p s.from s.to
 
 -- what an element gives
 unfoldable pub piece : List ℕ → List ℕ → Element → List ℕ
@@ -77,9 +83,9 @@ pub data Pivot (p : List ℕ) (from to : ℕ) : ℕ → Type 0 where
   at_variable : {pivot : ℕ} (a : List Element) (v : Element) (b : List Element) → side_of p from to ≡ a ++ (v ∷ b) → pivot ≡ from + size a → is_variable v ≡ true → Pivot p from to pivot
 
 -- a side measured: all of it, or it would pass the limit
-pub record Measured (p : List ℕ) (from to : ℕ) (b : List ℕ) (limit : ℕ) (fits : Bool) (n calls pivot : ℕ) : Type 0 where
-  pub yes : fits ≡ true → (n ≡ spans b (side_of p from to)) × (n ≤ limit) × (calls ≡ calls_of (side_of p from to)) × Pivot p from to pivot
-  pub no : fits ≡ false → limit < spans b (side_of p from to)
+pub record Measured (p : List ℕ) (from to : ℕ) (b : List ℕ) (limit : ℕ) (r : Option Extent) : Type 0 where
+  pub yes : (x : Extent) → r ≡ Some x → (x.size ≡ spans b (side_of p from to)) × (x.size ≤ limit) × (x.calls ≡ calls_of (side_of p from to)) × Pivot p from to x.pivot
+  pub no : r ≡ None → limit < spans b (side_of p from to)
 
 -- the same of some side that ends there
 pub record Pivoted (p : List ℕ) (to : ℕ) (b : List ℕ) (pivot : ℕ) : Type 0 where

@@ -2,17 +2,22 @@
 #![tactic(auto)]
 
 ghost use Rattle.std.specs.Prelude.{◌≡◌, true, cond, ◌⊎◌, List, [], ◌∷◌, ◌++◌, ℕ, ◌+◌, ◌-◌, ◌≤◌, ◌<◌, length, take, drop, set};
-ghost use Rattle.std.proofs.Math.Seq.{paste};
 ghost use Rattle.std.proofs.lemmas.List.Edits.{sets};
 ghost use Rattle.meaning.specs.Elements.{is_variable};
 ghost use Rattle.meaning.proofs.Cutting.{Whole};
 ghost use Rattle.scanning.specs.State.{is_call};
-ghost use Rattle.building.specs.Build.{side_of, piece, pour, Ready, Known, span_of, spans, calls_of, placed, Given, Spanned, Pivot, Measured, Pivoted, Parted};
+ghost use Rattle.building.specs.Build.{side_of, right_of, piece, pour, Ready, Known, span_of, spans, calls_of, placed, Given, Spanned, Pivot, Measured, Pivoted, Parted};
 
-// What a right side will be: whether it fits, its length, its call brackets, and where the longest of its values stands in the program.
+// A right side: program[from..to].
+#[derive(Clone, Copy)]
+pub struct Side {
+    pub from: usize,
+    pub to: usize,
+}
+
+// What a right side that fits will be: its length, its call brackets, and where the longest of its values stands in the program.
 #[derive(Clone, Copy)]
 pub struct Extent {
-    pub fits: bool,
     pub size: usize,
     pub calls: usize,
     pub pivot: usize,
@@ -40,9 +45,8 @@ fn is_call(kind: u8) -> bool
 }
 
 // The length of what the element program[at..at + len] gives.
-fn span_of(program: &[u8], at: usize, len: usize, binds: &[usize]) -> usize
-    requires spanned { Spanned program.now at len binds.now }
-    requires binds_len { length binds.now ≡ 96 }
+fn span_of(program: &[u8], at: usize, len: usize, binds: &[usize; kinds::BINDS]) -> usize
+    requires { Spanned program.now at len binds.now }
     ensures { result ≡ span_of binds.now (take len (drop at program.now)) }
 {
     let kind = program[at];
@@ -74,40 +78,42 @@ fn longer(best: Longest, kind: u8, at: usize, span: usize) -> Longest
     Longest { span, at }
 }
 
-// Measures the right side program[from..to], which may give `limit` bytes.
-pub fn measure(program: &[u8], from: usize, to: usize, binds: &[usize], limit: usize) -> Extent
-    requires given { Given program.now from to binds.now }
-    requires whole { Whole (side_of program.now from to) }
-    requires binds_len { (length binds.now ≡ 96) × (length program.now ≤ 65536) }
-    ensures { Measured program.now from to binds.now limit result.fits result.size result.calls result.pivot }
+// Measures the right side `side`, which may give `limit` bytes.
+pub fn measure(
+    program: &[u8],
+    side: Side,
+    binds: &[usize; kinds::BINDS],
+    limit: usize,
+) -> Option<Extent>
+    requires given { Given program.now side.from side.to binds.now }
+    requires whole { Whole (right_of program.now side) }
+    requires program_len_bound { length program.now ≤ 65536 }
+    ensures { Measured program.now side.from side.to binds.now limit result }
 {
-    let mut at = from;
+    let mut at = side.from;
     let mut size: usize = 0;
     let mut calls: usize = 0;
-    let mut best = Longest { span: 0, at: to };
-    while at < to {
+    let mut best = Longest {
+        span: 0,
+        at: side.to,
+    };
+    while at < side.to {
         let kind = program[at];
         let len = kinds::length_of(kind);
         let span = span_of(program, at, len, binds);
         if limit - size < span {
-            return Extent {
-                fits: false,
-                size,
-                calls,
-                pivot: to,
-            };
+            return None;
         }
         calls = counted(kind, calls);
         best = longer(best, kind, at, span);
         size += span;
         at += len;
     }
-    Extent {
-        fits: true,
+    Some(Extent {
         size,
         calls,
         pivot: best.at,
-    }
+    })
 }
 
 // Puts a part of `src` behind the first n bytes of `out`, and answers how many there are then.
@@ -126,12 +132,11 @@ fn put_element(
     at: usize,
     len: usize,
     arg: &[u8],
-    binds: &[usize],
+    binds: &[usize; kinds::BINDS],
     out: &mut [u8],
     n: usize,
 ) -> usize
     requires known { Known program.now at len arg.now binds.now }
-    requires binds_len { length binds.now ≡ 96 }
     requires program_in_bounds { n + span_of binds.now (take len (drop at program.now)) ≤ length out.old }
     ensures { (result ≡ n + span_of binds.now (take len (drop at program.now))) × (take result out.new ≡ take n out.old ++ piece arg.now binds.now (take len (drop at program.now))) }
 {
@@ -144,26 +149,24 @@ fn put_element(
     put_part(arg, from, binds[slot + kinds::SLOTS] - from, out, n)
 }
 
-// Builds the side program[from..to] behind the first `start` bytes of `out`, and answers how many there are then.
+// Builds a side behind the first `start` bytes of `out`, and answers how many there are then.
 fn build(
     program: &[u8],
-    from: usize,
-    to: usize,
+    side: Side,
     arg: &[u8],
-    binds: &[usize],
+    binds: &[usize; kinds::BINDS],
     out: &mut [u8],
     start: usize,
 ) -> usize
-    requires from_le_to { (from ≤ to) × (to ≤ length program.now) }
-    requires whole { Whole (side_of program.now from to) }
-    requires ready { Ready arg.now binds.now (side_of program.now from to) }
-    requires binds_len { length binds.now ≡ 96 }
-    requires to_in_bounds { start + spans binds.now (side_of program.now from to) ≤ length out.old }
-    ensures { (result ≡ start + spans binds.now (side_of program.now from to)) × (take result out.new ≡ take start out.old ++ pour arg.now binds.now (side_of program.now from to)) }
+    requires in_program { (side.from ≤ side.to) × (side.to ≤ length program.now) }
+    requires whole { Whole (right_of program.now side) }
+    requires ready { Ready arg.now binds.now (right_of program.now side) }
+    requires room { start + spans binds.now (right_of program.now side) ≤ length out.old }
+    ensures { (result ≡ start + spans binds.now (right_of program.now side)) × (take result out.new ≡ take start out.old ++ pour arg.now binds.now (right_of program.now side)) }
 {
-    let mut at = from;
+    let mut at = side.from;
     let mut n = start;
-    while at < to {
+    while at < side.to {
         let len = kinds::length_of(program[at]);
         n = put_element(program, at, len, arg, binds, out, n);
         at += len;
@@ -171,23 +174,9 @@ fn build(
     n
 }
 
-// Moves n bytes from `from` on to `at` on.
-fn shift(s: &mut [u8], from: usize, at: usize, n: usize)
-    requires n_in_bounds { from + n ≤ length s.old }
-    requires n_in_bounds_2 { at + n ≤ length s.old }
-    ensures { s.new ≡ paste s.old at (drop from s.old) n }
-{
-    if at <= from {
-        moving::move_down(s, from, at, n);
-    } else {
-        moving::move_up(s, from, at, n);
-    }
-}
-
 // The value at the pivot, or an empty part behind the side.
-fn pivot_part(program: &[u8], pivot: usize, to: usize, binds: &[usize]) -> Part
-    requires pivoted { Pivoted program.now to binds.now pivot }
-    requires binds_len { length binds.now ≡ 96 }
+fn pivot_part(program: &[u8], pivot: usize, to: usize, binds: &[usize; kinds::BINDS]) -> Part
+    requires { Pivoted program.now to binds.now pivot }
     ensures { (arg : List ℕ) → (from : ℕ) → Pivot program.now from to pivot → Whole (side_of program.now from to) → from ≤ to → to ≤ length program.now → Ready arg binds.now (side_of program.now from to) → Parted program.now from pivot to arg binds.now result.from result.to result.next }
 {
     if pivot == to {
@@ -212,25 +201,23 @@ pub struct Filled {
     pub m: usize,
 }
 
-// Builds program[from..pivot] and program[next..to] in the scratch, one behind the other.
+// Builds two sides in the scratch, one behind the other.
 fn fill(
     program: &[u8],
-    from: usize,
-    pivot: usize,
-    next: usize,
-    to: usize,
+    before: Side,
+    behind: Side,
     arg: &[u8],
-    binds: &[usize],
+    binds: &[usize; kinds::BINDS],
     scratch: &mut [u8],
 ) -> Filled
-    requires from_le_pivot { (from ≤ pivot) × (pivot ≤ length program.now) × (next ≤ to) × (to ≤ length program.now) }
-    requires whole { Whole (side_of program.now from pivot) × Ready arg.now binds.now (side_of program.now from pivot) }
-    requires whole_2 { Whole (side_of program.now next to) × Ready arg.now binds.now (side_of program.now next to) }
-    requires binds_len { (length binds.now ≡ 96) × (spans binds.now (side_of program.now from pivot) + spans binds.now (side_of program.now next to) ≤ length scratch.old) }
-    ensures { (result.n ≡ spans binds.now (side_of program.now from pivot)) × (result.m ≡ result.n + spans binds.now (side_of program.now next to)) × (take result.n scratch.new ≡ pour arg.now binds.now (side_of program.now from pivot)) × (take (result.m - result.n) (drop result.n scratch.new) ≡ pour arg.now binds.now (side_of program.now next to)) }
+    requires in_program { (before.from ≤ before.to) × (before.to ≤ length program.now) × (behind.from ≤ behind.to) × (behind.to ≤ length program.now) }
+    requires before { Whole (right_of program.now before) × Ready arg.now binds.now (right_of program.now before) }
+    requires behind { Whole (right_of program.now behind) × Ready arg.now binds.now (right_of program.now behind) }
+    requires room { spans binds.now (right_of program.now before) + spans binds.now (right_of program.now behind) ≤ length scratch.old }
+    ensures { (result.n ≡ spans binds.now (right_of program.now before)) × (result.m ≡ result.n + spans binds.now (right_of program.now behind)) × (take result.n scratch.new ≡ pour arg.now binds.now (right_of program.now before)) × (take (result.m - result.n) (drop result.n scratch.new) ≡ pour arg.now binds.now (right_of program.now behind)) }
 {
-    let n = build(program, from, pivot, arg, binds, scratch, 0);
-    let m = build(program, next, to, arg, binds, scratch, n);
+    let n = build(program, before, arg, binds, scratch, 0);
+    let m = build(program, behind, arg, binds, scratch, n);
     Filled { n, m }
 }
 
@@ -240,41 +227,39 @@ fn put_in(field: &mut [u8], end: usize, from: usize, v: usize, parts: &[u8], n: 
     ensures { field.new ≡ take (end - (m + v)) field.old ++ ((take n parts.now ++ (take v (drop from field.old) ++ take (m - n) (drop n parts.now))) ++ drop end field.old) }
 {
     let behind = end - (m - n);
-    shift(field, from, behind - v, v);
+    moving::shift(field, from, behind - v, v);
     moving::copy(parts, n, m - n, field, behind);
     moving::copy(parts, 0, n, field, behind - v - n);
 }
 
-// Puts what the side program[from..to] gives into the field, up to the > at `at`, whose argument is field[hi..at]. The value at the pivot moves
+// Puts what a side gives into the field, up to the > at `at`, whose argument is field[hi..at]. The value at the pivot moves
 // within the field, and may well stay; what stands before and behind it is built in the scratch.
 pub fn place(
     program: &[u8],
-    from: usize,
+    side: Side,
     pivot: usize,
-    to: usize,
-    binds: &[usize],
+    binds: &[usize; kinds::BINDS],
     field: &mut [u8],
     hi: usize,
     at: usize,
     scratch: &mut [u8],
 )
-    requires from_le_to { (from ≤ to) × (to ≤ length program.now) × Whole (side_of program.now from to) × Pivot program.now from to pivot }
+    requires in_program { (side.from ≤ side.to) × (side.to ≤ length program.now) × Whole (right_of program.now side) × Pivot program.now side.from side.to pivot }
     requires hi_le_at { (hi ≤ at) × (at < length field.old) × (length field.old ≤ 65536) }
-    requires ready { Ready (take (at - hi) (drop hi field.old)) binds.now (side_of program.now from to) }
-    requires binds_len { (length binds.now ≡ 96) × (spans binds.now (side_of program.now from to) ≤ at + 1) × (length field.old ≤ length scratch.old) }
-    ensures { field.new ≡ take (at + 1 - spans binds.now (side_of program.now from to)) field.old ++ (pour (take (at - hi) (drop hi field.old)) binds.now (side_of program.now from to) ++ drop (at + 1) field.old) }
+    requires ready { Ready (take (at - hi) (drop hi field.old)) binds.now (right_of program.now side) }
+    requires room { (spans binds.now (right_of program.now side) ≤ at + 1) × (length field.old ≤ length scratch.old) }
+    ensures { field.new ≡ take (at + 1 - spans binds.now (right_of program.now side)) field.old ++ (pour (take (at - hi) (drop hi field.old)) binds.now (right_of program.now side) ++ drop (at + 1) field.old) }
 {
-    let value = pivot_part(program, pivot, to, binds);
-    let built = fill(
-        program,
-        from,
-        pivot,
-        value.next,
-        to,
-        &field[hi..at],
-        binds,
-        scratch,
-    );
+    let value = pivot_part(program, pivot, side.to, binds);
+    let before = Side {
+        from: side.from,
+        to: pivot,
+    };
+    let behind = Side {
+        from: value.next,
+        to: side.to,
+    };
+    let built = fill(program, before, behind, &field[hi..at], binds, scratch);
     let v = value.to - value.from;
     put_in(field, at + 1, hi + value.from, v, scratch, built.n, built.m);
 }
@@ -291,26 +276,25 @@ fn note_one(kind: u8, at: usize, calls: &mut [u16], k: usize) -> usize
     k
 }
 
-// Notes in calls[first..] the call brackets of the side program[from..to], where what it gives begins at `start`.
+// Notes in calls[first..] the call brackets of a side, where what it gives begins at `start`.
 pub fn note(
     program: &[u8],
-    from: usize,
-    to: usize,
-    binds: &[usize],
+    side: Side,
+    binds: &[usize; kinds::BINDS],
     start: usize,
     calls: &mut [u16],
     first: usize,
 )
-    requires given { Given program.now from to binds.now }
-    requires whole { Whole (side_of program.now from to) }
-    requires binds_len { (length binds.now ≡ 96) × (length program.now ≤ 65536) }
-    requires to_bound { (start + spans binds.now (side_of program.now from to) ≤ 65536) × (first + calls_of (side_of program.now from to) ≤ length calls.old) }
-    ensures { calls.new ≡ sets calls.old first (placed start binds.now (side_of program.now from to)) }
+    requires given { Given program.now side.from side.to binds.now }
+    requires whole { Whole (right_of program.now side) }
+    requires program_len_bound { length program.now ≤ 65536 }
+    requires room { (start + spans binds.now (right_of program.now side) ≤ 65536) × (first + calls_of (right_of program.now side) ≤ length calls.old) }
+    ensures { calls.new ≡ sets calls.old first (placed start binds.now (right_of program.now side)) }
 {
-    let mut i = from;
+    let mut i = side.from;
     let mut at = start;
     let mut k = first;
-    while i < to {
+    while i < side.to {
         let kind = program[i];
         let len = kinds::length_of(kind);
         k = note_one(kind, at, calls, k);

@@ -19,7 +19,7 @@ use Rattle.elements.specs.Bytes.{digits, Told}
 use Rattle.elements.specs.Reading.{NumberedAt, PassedOver}
 use Rattle.scanning.proofs.Marks.{size-nil, size-cons}
 use Rattle.building.proofs.Sides.{kind_first, side_is, side_within, side_rest, side_end}
-use Rattle.choosing.specs.declared.Spot.TheVariants.{At, Nowhere}
+use Rattle.std.specs.Prelude.{Some, None}
 use Rattle.choosing.specs.Choose.{rest_of, element_at, sentences, Program, Looked, there, nowhere}
 
 pub whole_one : (e : Element) (es zs : List Element) → zs ≡ e ∷ es → Whole zs → length e ≡ suc (body (kind e))
@@ -174,7 +174,7 @@ finding_start p name g = record { upto = omega arith; whole = g.whole; bodies = 
 
 module _ {p name : List ℕ} {i : ℕ} (s : Finding p name i) where
   module _ (h : i < length p) {k n : ℕ} (q : PassedOver p i k n) where
-    pub found_here : same (element_at p i) (13 ∷ name) ≡ true → (c : Cursor) → c.at ≡ n → Looked p name (At c)
+    pub found_here : same (element_at p i) (13 ∷ name) ≡ true → (c : Cursor) → c.at ≡ n → Looked p name (Some c)
     unfolding function sentences
     found_here z c e =
         let j : c.at ≡ i + 1 + body (get_or p i 0) = e ∙ q.next_is in
@@ -198,12 +198,12 @@ module _ {p name : List ℕ} {i : ℕ} (s : Finding p name i) where
     pub found_other : (k ≡ 13 → ⊥) → Finding p name n
     found_other f = found_not (no_header p i (rest_within p i h s.whole) (λ e. f (q.kind_is ∙ e)) name)
 
-    pub named_here : k ≡ 13 → {m next : ℕ} → NumberedAt p i 13 m next → {b : Bool} → Told b (digits 2 m ≡ name) → b ≡ true → (c : Cursor) → c.at ≡ n → Looked p name (At c)
+    pub named_here : k ≡ 13 → {m next : ℕ} → NumberedAt p i 13 m next → {b : Bool} → Told b (digits 2 m ≡ name) → b ≡ true → (c : Cursor) → c.at ≡ n → Looked p name (Some c)
     named_here e r {b} t z = found_here (header_same p i (rest_within p i h s.whole) (sym q.kind_is ∙ e) r b name t ∙ z)
 
     pub named-not : k ≡ 13 → {m next : ℕ} → NumberedAt p i 13 m next → {b : Bool} → Told b (digits 2 m ≡ name) → b ≡ false → Finding p name n
     named-not e r {b} t z = found_not (header_same p i (rest_within p i h s.whole) (sym q.kind_is ∙ e) r b name t ∙ z)
 
-  pub found_end : length p ≤ i → Looked p name Nowhere
+  pub found_end : length p ≤ i → Looked p name None
   unfolding function
   found_end h = nowhere (s.so ∙ ap (function name) (rest_end p i h))

@@ -20,6 +20,7 @@ use Rattle.meaning.proofs.Programs.{before_here, before_at, Sided, Body, body_en
 use Rattle.settling.specs.Values.{LeftSide}
 use Rattle.matching.specs.Binding.{Matched, no_fit, first_fit}
 use Rattle.building.specs.Build.{side_of, pour, Ready}
+use Rattle.std.specs.Prelude.{Some, None}
 use Rattle.choosing.specs.Choose.{rest_of, sentences, Chosen, none_fits, one_fits}
 use Rattle.scanning.proofs.Marks.{size-nil, size-cons, whole_left, whole_right}
 use Rattle.building.proofs.Sides.{side_middle, side_behind, middle_within, behind_whole}
@@ -171,7 +172,7 @@ module _ {p : List ℕ} {start : ℕ} {x : List Element} {at : ℕ} (c : Choosin
           record { first = f; left = l; right_side = cut_off p right _ _ 12 f.r f.s f.rest l.fits l.behind_whole l.behind (side_holds 12 f.sides.right_side refl) f.ks u v }
 
 module _ {p f b : List ℕ} {start at : ℕ} (c : Choosing p start (elements f) at) where
-  pub choose_none : {k : ℕ} → k ≡ get_or p at 0 → k ≡ 14 → {u v : ℕ} → Chosen p f b (apply (sentences (rest_of p start)) (elements f)) false u v
+  pub choose_none : {k : ℕ} → k ≡ get_or p at 0 → k ≡ 14 → Chosen p f b (apply (sentences (rest_of p start)) (elements f)) None
   unfolding sentences pieces apply
   choose_none is k =
       let i = place_in c in
@@ -189,7 +190,7 @@ module _ {p f b : List ℕ} {start at : ℕ} (c : Choosing p start (elements f) 
     }
 
     pub choose_this : {v : Bool} → v ≡ true → Matched (elements (take (mid - at) (drop at p))) f b v
-        → Chosen p f b (apply (sentences (rest_of p start)) (elements f)) true right stop
+        → Chosen p f b (apply (sentences (rest_of p start)) (elements f)) (Some (record { from = right; to = stop }))
     choose_this n (no_fit s) = never (cc)
     choose_this n (first_fit env s g) =
         let l = t.first.l in

@@ -14,24 +14,21 @@ use Rattle.meaning.proofs.Truth.{never, Seen, is_true, is_false, see}
 use Rattle.elements.specs.declared.Cursor.{Cursor}
 use Rattle.elements.specs.Bytes.{digits, Told}
 use Rattle.elements.specs.Reading.{NumberedAt, PassedOver}
-use Rattle.choosing.specs.declared.Spot.TheVariants.{At, Nowhere}
+use Rattle.std.specs.Prelude.{Some, None}
 use Rattle.choosing.specs.Choose.{rest_of, element_at, Program, Looked, nowhere, slot_for, Entry, empty, taken, Indexed, Cache}
 use Rattle.choosing.proofs.Rest.{rest_is, rest_within, rest_rest, header_fits, rest_end, number_is, no_header, header_same, bodies_first, named_here}
 
 slot_low : (n : ℕ) → slot_for n < 8192
 slot_low n = omega arith
 
-pub empty_cache : (p : List ℕ) → Program p → Cache p (replicate 1 0) (replicate 8192 0)
+pub empty_cache : (p : List ℕ) → Program p → Cache p (record { read = 0; spots = replicate 8192 0 })
 empty_cache p g =
     record {
-      one = length-replicate {A = ℕ} 1 0;
-      table = record {
-        upto = omega arith;
-        whole = g.whole;
-        bodies = g.bodies;
-        long = length-replicate {A = ℕ} 8192 0;
-        each = λ lo hi. empty (get_or-replicate {A = ℕ} 8192 (slot_for (lo + hi * 256)) 0 0 (slot_low (lo + hi * 256))) refl;
-      };
+      upto = omega arith;
+      whole = g.whole;
+      bodies = g.bodies;
+      long = length-replicate {A = ℕ} 8192 0;
+      each = λ lo hi. empty (get_or-replicate {A = ℕ} 8192 (slot_for (lo + hi * 256)) 0 0 (slot_low (lo + hi * 256))) refl;
     }
 
 -- ONE ELEMENT
@@ -79,10 +76,10 @@ module _ {p : List ℕ} {i : ℕ} {spots : List ℕ} (x : Indexed p i spots) (h 
         room : i + 3 ≤ length p
         room = let w : i + 1 + 2 ≤ length p = header_fits h x.whole q e13 in omega arith
 
-        looked : (lo hi : ℕ) → slot_for (lo + hi * 256) ≡ slot_for number → take 2 (drop (i + 1) p) ≡ lo ∷ hi ∷ [] → Looked p (lo ∷ hi ∷ []) (At (record { at = i + 3 }))
+        looked : (lo hi : ℕ) → slot_for (lo + hi * 256) ≡ slot_for number → take 2 (drop (i + 1) p) ≡ lo ∷ hi ∷ [] → Looked p (lo ∷ hi ∷ []) (Some (record { at = i + 3 }))
         looked lo hi es e = go (x.each lo hi)
           where
-            go : Entry p i lo hi (get_or spots (slot_for (lo + hi * 256)) 0) → Looked p (lo ∷ hi ∷ []) (At (record { at = i + 3 }))
+            go : Entry p i lo hi (get_or spots (slot_for (lo + hi * 256)) 0) → Looked p (lo ∷ hi ∷ []) (Some (record { at = i + 3 }))
             go (taken b f l g) = never (let w : get_or spots (slot_for (lo + hi * 256)) 0 ≡ 0 = rw es z in omega arith)
             go (empty w f) =
                 let m : n ≡ i + 1 + 2 = (let k13 : get_or p i 0 ≡ 13 = sym q.kind_is ∙ e13 in rw k13 at q.next_is) in
@@ -101,11 +98,11 @@ module _ {p : List ℕ} {i : ℕ} {spots : List ℕ} (x : Indexed p i spots) (h 
 
 -- WHAT THE TABLE SAYS
 module _ {p : List ℕ} {i : ℕ} {spots : List ℕ} (x : Indexed p i spots) (lo hi : ℕ) where
-  pub table_none : get_or spots (slot_for (lo + hi * 256)) 0 ≡ 0 → i ≡ length p → Looked p (lo ∷ hi ∷ []) Nowhere
+  pub table_none : get_or spots (slot_for (lo + hi * 256)) 0 ≡ 0 → i ≡ length p → Looked p (lo ∷ hi ∷ []) None
   unfolding function
   table_none z e = go (x.each lo hi)
     where
-      go : Entry p i lo hi (get_or spots (slot_for (lo + hi * 256)) 0) → Looked p (lo ∷ hi ∷ []) Nowhere
+      go : Entry p i lo hi (get_or spots (slot_for (lo + hi * 256)) 0) → Looked p (lo ∷ hi ∷ []) None
       go (taken b f l g) = never (omega arith)
       go (empty w f) = nowhere (f ∙ ap (function (lo ∷ hi ∷ [])) (rest_end p i (omega arith)))
 
@@ -118,21 +115,14 @@ module _ {p : List ℕ} {i : ℕ} {spots : List ℕ} (x : Indexed p i spots) (lo
         go (taken b f l g) = (omega arith, omega arith)
         go (empty w f) = absurd (n (e ∙ w))
 
-    pub table_some : {m next : ℕ} → NumberedAt p (s - 1) 13 m next → {t : Bool} → Told t (digits 2 m ≡ lo ∷ hi ∷ []) → t ≡ true → (c : Cursor) → c.at ≡ next → Looked p (lo ∷ hi ∷ []) (At c)
+    pub table_some : {m next : ℕ} → NumberedAt p (s - 1) 13 m next → {t : Bool} → Told t (digits 2 m ≡ lo ∷ hi ∷ []) → t ≡ true → (c : Cursor) → c.at ≡ next → Looked p (lo ∷ hi ∷ []) (Some c)
     unfolding body
     table_some {m} {next} r {t} d z c k = go (x.each lo hi)
       where
-        go : Entry p i lo hi (get_or spots (slot_for (lo + hi * 256)) 0) → Looked p (lo ∷ hi ∷ []) (At c)
+        go : Entry p i lo hi (get_or spots (slot_for (lo + hi * 256)) 0) → Looked p (lo ∷ hi ∷ []) (Some c)
         go (taken b f l g) =
             let q : s - 1 ≡ b = omega arith in
             let j : c.at ≡ b + 3 = (let y : next ≡ s - 1 + 1 + 2 = r.next_is in omega arith) in
             let o : digits 2 m ≡ lo ∷ hi ∷ [] = rw z at d in
             rw (← j) at (g (sym (rw q at r.bytes) ∙ o))
         go (empty w f) = absurd (n (e ∙ w))
-
--- how far the program is read is kept in the one number
-pub kept_at : (indexed : List ℕ) (i : ℕ) → length indexed ≡ 1 → get_or (set indexed 0 i) 0 0 ≡ i
-kept_at indexed i l = get_or-set_same indexed 0 i 0 (omega arith)
-
-pub cache_at : (p indexed spots : List ℕ) (i : ℕ) → length indexed ≡ 1 → Indexed p i spots → Cache p (set indexed 0 i) spots
-cache_at p indexed spots i l x = record { one = length-set indexed 0 i ∙ l; table = rw (kept_at indexed i l) x }

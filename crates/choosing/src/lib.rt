@@ -10,13 +10,18 @@ ghost use Rattle.elements.specs.Bytes.{digits, Told};
 ghost use Rattle.elements.specs.Reading.{Balanced};
 ghost use Rattle.choosing.specs.Choose.{rest_of, sentences, Program, Looked, slot_for, Indexed, Cache, Cached, Chosen};
 
+use building::Side;
 use elements::Cursor;
 
-// Where a function's body begins, if there is such a function.
-#[derive(Clone, Copy)]
-pub enum Spot {
-    At(Cursor),
-    Nowhere,
+// How many places the table of functions has.
+pub const SPOTS: usize = 8192;
+
+// A table of a program's functions, filled as far as it was needed: up to where the program is read, and in each place one more than where
+// the header begins that came first to it, or 0.
+#[derive(Drop)]
+pub struct Index {
+    pub read: usize,
+    pub spots: [u16; SPOTS],
 }
 
 // The kind of the element at a cursor; where it decides, nothing waits for the element to be passed.
@@ -53,8 +58,8 @@ fn is_name(number: u32, lo: u8, hi: u8) -> bool
     number / 256 == hi as u32
 }
 
-// The body of the first function with that name.
-pub fn find(program: &[u8], lo: u8, hi: u8) -> Spot
+// The body of the first function with that name, if there is one.
+pub fn find(program: &[u8], lo: u8, hi: u8) -> Option<Cursor>
     requires program { Program program.now }
     requires program_len_bound { length program.now ≤ 65536 }
     ensures { Looked program.now (lo ∷ hi ∷ []) result }
@@ -66,39 +71,31 @@ pub fn find(program: &[u8], lo: u8, hi: u8) -> Spot
         if passed.kind == kinds::HEADER {
             let header = c.read_as(program, kinds::HEADER);
             if is_name(header.number, lo, hi) {
-                return Spot::At(next);
+                return Some(next);
             }
         }
         c = next;
     }
-    Spot::Nowhere
-}
-
-// Where the right side begins and ends, if a sentence was found.
-#[derive(Clone, Copy)]
-pub struct Choice {
-    pub found: bool,
-    pub from: usize,
-    pub to: usize,
+    None
 }
 
 // The right side of the first sentence that fits, and the values of its variables.
-pub fn choose(program: &[u8], body: Cursor, arg: &[u8], binds: &mut [usize]) -> Choice
+pub fn choose(
+    program: &[u8],
+    body: Cursor,
+    arg: &[u8],
+    binds: &mut [usize; kinds::BINDS],
+) -> Option<Side>
     requires at_in_bounds { (body.at ≤ length program.now) × (length program.now ≤ 65536) }
     requires whole { Whole (rest_of program.now body.at) }
     requires body { Body (rest_of program.now body.at) }
     requires balanced { Balanced 0 (elements arg.now) }
-    requires binds_len { length binds.old ≡ 96 }
-    ensures { Chosen program.now arg.now binds.new (apply (sentences (rest_of program.now body.at)) (elements arg.now)) result.found result.from result.to }
+    ensures { Chosen program.now arg.now binds.new (apply (sentences (rest_of program.now body.at)) (elements arg.now)) result }
 {
     let mut c = body;
     loop {
         if kind_at(program, c) == kinds::FUNCTION_END {
-            return Choice {
-                found: false,
-                from: 0,
-                to: 0,
-            };
+            return None;
         }
         let equals = seek_kind(program, c, kinds::EQUALS);
         let right = equals.read_as(program, kinds::EQUALS);
@@ -107,12 +104,10 @@ pub fn choose(program: &[u8], body: Cursor, arg: &[u8], binds: &mut [usize]) -> 
         let at = c.at;
         let mid = equals.at;
         if matching::match_left(&program[at..mid], arg, binds) {
-            let from = right.next;
-            return Choice {
-                found: true,
-                from: from.at,
+            return Some(Side {
+                from: right.next.at,
                 to: end.at,
-            };
+            });
         }
         c = next.next;
     }
@@ -122,62 +117,58 @@ pub fn choose(program: &[u8], body: Cursor, arg: &[u8], binds: &mut [usize]) -> 
 fn slot_of(name: usize) -> usize
     ensures { (result ≡ slot_for name) × (result < 8192) }
 {
-    name % 8192
+    name % SPOTS
 }
 
-// Reads the element at a cursor into the table, where a header keeps the place that it came first to; hands the moved cursor back.
-fn index_one(program: &[u8], c: Cursor, spots: &mut [u16]) -> Cursor
-    requires { Indexed program.now c.at spots.old × (c.at < length program.now) × (length program.now ≤ 65536) }
-    ensures { Indexed program.now result.at spots.new × (c.at < result.at) }
-{
-    let passed = c.pass(program);
-    let next = passed.next;
-    if passed.kind != kinds::HEADER {
-        return next;
-    }
-    let header = c.read_as(program, kinds::HEADER);
-    let slot = slot_of(header.number as usize);
-    if spots[slot] == 0 {
-        spots[slot] = (c.at + 1) as u16;
-    }
-    next
-}
-
-// Reads on until the table has something in a place, or the program ends.
-fn index_to(program: &[u8], slot: usize, indexed: &mut [usize], spots: &mut [u16])
-    requires { Cache program.now indexed.old spots.old × (slot < 8192) × (length program.now ≤ 65536) }
-    ensures { Cache program.now indexed.new spots.new × (get_or spots.new slot 0 ≡ 0 → get_or indexed.new 0 0 ≡ length program.now) }
-{
-    let mut c = Cursor { at: indexed[0] };
-    while c.at < program.len() {
-        if spots[slot] != 0 {
-            indexed[0] = c.at;
-            return;
+impl Index {
+    // Reads the element at a cursor into the table, where a header keeps the place that it came first to; hands the moved cursor back.
+    fn read_one(&mut self, program: &[u8], c: Cursor) -> Cursor
+        requires { Indexed program.now c.at self.old.spots × (c.at < length program.now) × (length program.now ≤ 65536) }
+        ensures { Indexed program.now result.at self.new.spots × (c.at < result.at) }
+    {
+        let passed = c.pass(program);
+        if passed.kind != kinds::HEADER {
+            return passed.next;
         }
-        c = index_one(program, c, spots);
+        let header = c.read_as(program, kinds::HEADER);
+        let slot = slot_of(header.number as usize);
+        if self.spots[slot] == 0 {
+            self.spots[slot] = (c.at + 1) as u16;
+        }
+        passed.next
     }
-    indexed[0] = c.at;
-}
 
-// The body of the first function with that name, through a table that is filled as far as it is needed.
-pub fn look_up(program: &[u8], lo: u8, hi: u8, indexed: &mut [usize], spots: &mut [u16]) -> Spot
-    requires program { Program program.now }
-    requires program_len_bound { length program.now ≤ 65536 }
-    requires cache { Cache program.now indexed.old spots.old }
-    ensures { Cached program.now lo hi result indexed.new spots.new }
-{
-    let slot = slot_of(lo as usize + hi as usize * 256);
-    index_to(program, slot, indexed, spots);
-    let place = spots[slot] as usize;
-    if place == 0 {
-        return Spot::Nowhere;
+    // Reads on until the table has something in a place, or the program ends.
+    fn read_to(&mut self, program: &[u8], slot: usize)
+        requires { Cache program.now self.old × (slot < 8192) × (length program.now ≤ 65536) }
+        ensures { Cache program.now self.new × (get_or self.new.spots slot 0 ≡ 0 → self.new.read ≡ length program.now) }
+    {
+        let mut c = Cursor { at: self.read };
+        while c.at < program.len() && self.spots[slot] == 0 {
+            c = self.read_one(program, c);
+        }
+        self.read = c.at;
     }
-    let c = Cursor { at: place - 1 };
-    let first = c.read_as(program, kinds::HEADER);
-    let body = first.next;
-    if is_name(first.number, lo, hi) {
-        return Spot::At(body);
+
+    // The body of the first function with that name, if there is one; the table is filled as far as it is needed.
+    pub fn look_up(&mut self, program: &[u8], lo: u8, hi: u8) -> Option<Cursor>
+        requires program { Program program.now }
+        requires program_len_bound { length program.now ≤ 65536 }
+        requires cache { Cache program.now self.old }
+        ensures { Cached program.now lo hi result self.new }
+    {
+        let slot = slot_of(lo as usize + hi as usize * 256);
+        self.read_to(program, slot);
+        let place = self.spots[slot] as usize;
+        if place == 0 {
+            return None;
+        }
+        let c = Cursor { at: place - 1 };
+        let first = c.read_as(program, kinds::HEADER);
+        if is_name(first.number, lo, hi) {
+            return Some(first.next);
+        }
+        // another name came first
+        find(program, lo, hi)
     }
-    // another name came first
-    find(program, lo, hi)
 }

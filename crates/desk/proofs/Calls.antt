@@ -2,12 +2,18 @@
 use mathlib.Core.Path.{◌≡◌, refl, sym, ◌∙◌, ap}
 use mathlib.Core.List.{List}
 use Prim.Native.Nat.{ℕ, suc, ◌≤◌}
+use native.Mathlib.Omega.{arith}
 use borrow.Author.Tests.{eq-eqb, ne_eqb}
 use Rattle.meaning.specs.Machine.{machine, answer}
 use Rattle.meaning.specs.Desk.{desk, desk_call, desk_calls, noted}
 use Rattle.meaning.proofs.Calls.{desk_law}
 use Rattle.machine.specs.Codes.{code_of}
+use mathlib.Core.Bool.{true, false, not}
+use denote.Enum.Bare.{sameb}
+use Rattle.meaning.proofs.Truth.{never}
+use Rattle.machine.specs.contracts.Code.{the_type}
 use Rattle.machine.specs.declared.Code.{Code}
+use Rattle.machine.specs.declared.Code.TheVariants.{Done, Paused, NoMatch, NoFunction, NoRoom, BadSizes, BadProgram, BadField}
 use Rattle.machine.proofs.Only.{code_only}
 use Rattle.desk.specs.Calling.{desk_of, Called}
 use Rattle.desk.specs.declared.Record.{Record}
@@ -20,6 +26,27 @@ pub call_runs : (p : List ℕ) {c n : ℕ} (used place : ℕ) (f s : List ℕ) �
     → desk_call p (desk used c place f s) ≡ desk u c' i f' s'
 unfolding desk_call
 call_runs p {c} used place f s e h m = rw (eq-eqb c 1 (sym e ∙ h), desk_call) (rw m)
+
+-- what the test of the code says of its number
+pub not_paused : (c : Code) → true ≡ not (sameb the_type c Paused) → code_of c ≡ 1 → ⊥
+not_paused Done h e = never (omega arith)
+not_paused Paused h e = never (cc)
+not_paused NoMatch h e = never (omega arith)
+not_paused NoFunction h e = never (omega arith)
+not_paused NoRoom h e = never (omega arith)
+not_paused BadSizes h e = never (omega arith)
+not_paused BadProgram h e = never (omega arith)
+not_paused BadField h e = never (omega arith)
+
+pub is_paused : (c : Code) → false ≡ not (sameb the_type c Paused) → code_of c ≡ 1
+is_paused Done h = never (cc)
+is_paused Paused h = refl
+is_paused NoMatch h = never (cc)
+is_paused NoFunction h = never (cc)
+is_paused NoRoom h = never (cc)
+is_paused BadSizes h = never (cc)
+is_paused BadProgram h = never (cc)
+is_paused BadField h = never (cc)
 
 -- what a call promises leaves no second record, and no other byte
 pub only_call : (p : List ℕ) (r : Record) (f s : List ℕ) {r₁ r₂ : Record} {f₁ f₂ s₁ s₂ : List ℕ} → Called p r f s r₁ f₁ s₁ → Called p r f s r₂ f₂ s₂

@@ -19,7 +19,7 @@ use Rattle.checking_fields.specs.declared.FieldFault.TheVariants.{Bad, Short}
 use Rattle.std.specs.Prelude.{Ok, Err}
 use Rattle.running.specs.Running.{Checked}
 use Rattle.running.proofs.Start.{scratch_size}
-use Rattle.running.proofs.End.{cleared}
+use Rattle.running.proofs.Closing.{cleared}
 use Rattle.machine.specs.Codes.{Sized}
 
 -- WHAT A CHECK SAYS

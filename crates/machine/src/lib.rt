@@ -3,13 +3,14 @@
 
 ghost use Rattle.std.specs.Prelude.{◌≡◌, ◌≤◌};
 ghost use Rattle.meaning.specs.Machine.{sizes, machine, answer};
-ghost use Rattle.running.specs.Running.{Checked};
+ghost use Rattle.running.specs.Running.{number_of, Checked};
 ghost use Rattle.machine.specs.Codes.{code_of, Sized};
 
 use checking_fields::FieldFault;
+use running::End;
 
-// Why a run came to its end.
-#[derive(Clone, Copy)]
+// Why a run came to its end; the variants stand in the order of the paper's numbers, from 0 on.
+#[derive(Clone, Copy, PartialEq, Eq)]
 pub enum Code {
     Done,
     Paused,
@@ -33,28 +34,20 @@ pub struct Answer {
 pub fn number(code: Code) -> u8
     ensures { result ≡ code_of code }
 {
-    match code {
-        Code::Done => 0,
-        Code::Paused => 1,
-        Code::NoMatch => 2,
-        Code::NoFunction => 3,
-        Code::NoRoom => 4,
-        Code::BadSizes => 5,
-        Code::BadProgram => 6,
-        Code::BadField => 7,
-    }
+    code as u8
 }
 
-// The name of a code that a run ends with.
-fn named(code: u8) -> Code
-    ensures { code ≤ 4 → code_of result ≡ code }
-{
-    match code {
-        0 => Code::Done,
-        1 => Code::Paused,
-        2 => Code::NoMatch,
-        3 => Code::NoFunction,
-        _ => Code::NoRoom,
+impl From<End> for Code {
+    ghost from_gives = { λ e c. code_of c ≡ number_of e };
+
+    fn from(end: End) -> Code {
+        match end {
+            End::Done => Code::Done,
+            End::Paused => Code::Paused,
+            End::NoMatch => Code::NoMatch,
+            End::NoFunction => Code::NoFunction,
+            End::NoRoom => Code::NoRoom,
+        }
     }
 }
 
@@ -69,12 +62,12 @@ fn run_checked(
     requires { Checked program.now field.old used scratch.old }
     ensures { machine program.now field.old used scratch.old budget ≡ answer (code_of result.code) result.steps result.used result.place field.new scratch.new }
 {
-    let end = running::run_good(program, field, used, scratch, budget);
+    let ran = running::run_good(program, field, used, scratch, budget);
     Answer {
-        code: named(end.code),
-        steps: end.steps,
-        used: end.used,
-        place: end.place,
+        code: Code::from(ran.end),
+        steps: ran.steps,
+        used: ran.used,
+        place: ran.place,
     }
 }
 

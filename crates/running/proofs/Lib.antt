@@ -1,3 +1,3 @@
 pub mod Start
 pub mod Loop
-pub mod End
+pub mod Closing

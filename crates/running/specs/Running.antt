@@ -7,6 +7,8 @@ use Rattle.meaning.proofs.Programs.{Functions, Solid}
 use Rattle.meaning.proofs.Balance.{brackets}
 use Rattle.scanning.specs.State.{field_of, field_at, Good, Standing}
 use Rattle.choosing.specs.Choose.{rest_of, Program}
+use Rattle.running.specs.declared.End.{End}
+use Rattle.running.specs.declared.End.TheVariants.{Done, Paused, NoMatch, NoFunction, NoRoom}
 
 -- what the checks have found out
 pub record Checked (p f : List ℕ) (used : ℕ) (s : List ℕ) : Type 0 where
@@ -25,12 +27,19 @@ pub record Ready (p f : List ℕ) (used : ℕ) (s : List ℕ) : Type 0 where
   pub field_short : length f ≤ 65536
   pub scratch_long : length f ≤ length s
 
+-- the paper's number of each end
+abbrev pub number_of : End → ℕ
+number_of Done = 0
+number_of Paused = 1
+number_of NoMatch = 2
+number_of NoFunction = 3
+number_of NoRoom = 4
+
 -- a run that has come to a halt
-pub record Halted (whole : Result) (f' : List ℕ) (code steps place lo hi : ℕ) : Type 0 where
+pub record Halted (whole : Result) (f' : List ℕ) (e : End) (steps place lo hi : ℕ) : Type 0 where
   pub gap : lo ≤ hi
   pub fits : hi ≤ length f'
-  pub so : whole ≡ result code steps place (field_at f' lo hi)
-  pub small : code ≤ 4
+  pub so : whole ≡ result (number_of e) steps place (field_at f' lo hi)
 
 -- a run between two steps
 pub record Between (p : List ℕ) (room budget : ℕ) (whole : Result) (f calls : List ℕ) (lo hi read depth top steps : ℕ) : Type 0 where

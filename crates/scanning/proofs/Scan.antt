@@ -1,6 +1,7 @@
 -- On to the next call bracket, and over it.
-use mathlib.Core.Path.{◌≡◌, refl, sym, ◌∙◌, ap}
+use mathlib.Core.Path.{◌≡◌, refl, sym, ◌∙◌, ap, subst}
 use mathlib.Core.Bool.{Bool, true, false}
+use Rattle.std.specs.Prelude.{Option, Some, None}
 use mathlib.Core.List.{List, [], ◌∷◌, ◌++◌, append_assoc}
 use Prim.Native.Nat.{ℕ, suc, ◌+◌, ◌*◌, ◌-◌, ◌≤◌, ◌<◌}
 use native.Mathlib.Omega.{arith}
@@ -282,8 +283,18 @@ module _ (f : List ℕ) (lo hi at read depth top : ℕ) (calls : List ℕ) (good
         }
 
 -- FROM BRACKET TO BRACKET
-pub yes_no : {A : Type 0} {b : Bool} → b ≡ true → b ≡ false → A
-yes_no h k = never (cc (sym h ∙ k))
+-- a bracket is found in one place alone, or not at all
+pub none_some : {A : Type 0} {k : ℕ} → None ≡ Some k → A
+none_some e = never (cc)
+
+pub some_none : {A : Type 0} {k : ℕ} → Some k ≡ None → A
+some_none e = never (cc)
+
+one_some : {j k : ℕ} → Some j ≡ Some k → j ≡ k
+one_some e = cc
+
+pub found_at : (P : ℕ → Type 0) {j : ℕ} → P j → (k : ℕ) → Some j ≡ Some k → P k
+found_at P h k e = subst P (one_some e) h
 
 pub record Advancing (f₀ : List ℕ) (lo₀ hi₀ : ℕ) (calls₀ f : List ℕ) (lo hi read depth top : ℕ) (calls : List ℕ) : Type 0 where
   pub good : Good f lo hi
@@ -296,15 +307,15 @@ is_six : (g : Element) (k : ℕ) → kind g ≡ k → is_call g ≡ true → (k 
 is_six g k e c n7 = eqb-true k 6 (or_left (eqb k 6) (rw (e, ne_eqb k 7 n7) at c))
 
 module _ (f₀ : List ℕ) (lo₀ hi₀ : ℕ) (calls₀ f : List ℕ) (lo hi read depth top : ℕ) (calls : List ℕ) (i : Advancing f₀ lo₀ hi₀ calls₀ f lo hi read depth top calls)
-    (here : Bool) (at read' lo' hi' depth' top' : ℕ) (el : lo' ≡ lo) (eh : hi' ≡ hi) (ed : depth' ≡ depth) (n : Next f lo hi calls here at read' depth top') where
-  pub advanced : (here ≡ true → get_or f at 0 ≡ 7) → Advanced f₀ lo₀ hi₀ f lo' hi' calls here at read' depth' top'
+    (found : Option ℕ) (read' lo' hi' depth' top' : ℕ) (el : lo' ≡ lo) (eh : hi' ≡ hi) (ed : depth' ≡ depth) (n : Next f lo hi calls found read' depth top') where
+  pub advanced : ((at : ℕ) → found ≡ Some at → get_or f at 0 ≡ 7) → Advanced f₀ lo₀ hi₀ f lo' hi' calls found read' depth' top'
   advanced s = rw (el, eh, ed) (record { good = i.good; same = i.same; next = n; shuts = s })
 
-  pub reached_open : here ≡ true → (get_or f at 0 ≡ 7 → ⊥) → Reached f lo' hi' at read' depth' top' calls × (get_or f at 0 ≡ 6)
-  reached_open z n7 = let r = n.yes z in (rw (el, eh, ed) r, is_six r.g (get_or f at 0) r.sort r.call n7)
+  pub reached_open : (at : ℕ) → found ≡ Some at → (get_or f at 0 ≡ 7 → ⊥) → Reached f lo' hi' at read' depth' top' calls × (get_or f at 0 ≡ 6)
+  reached_open at z n7 = let r = n.yes at z in (rw (el, eh, ed) r, is_six r.g (get_or f at 0) r.sort r.call n7)
 
-  pub in_field : here ≡ true → at < length f
-  in_field z = let r = n.yes z in omega (arith, r.fits, r.sort, g_some r.g r.call)
+  pub in_field : (at : ℕ) → found ≡ Some at → at < length f
+  in_field at z = let r = n.yes at z in omega (arith, r.fits, r.sort, g_some r.g r.call)
     where
       g_some : (g : Element) → is_call g ≡ true → 0 < length g
       g_some [] c = never (cc)

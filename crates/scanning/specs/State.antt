@@ -1,5 +1,5 @@
 -- Where a run stands: a good field, spread over its buffer with a gap, and the call brackets on both sides of the gap.
-use Rattle.std.specs.Prelude.{◌≡◌, Bool, true, false, ◌||◌, List, [], ◌∷◌, ◌++◌, ℕ, ◌+◌, ◌*◌, ◌≤◌, ◌<◌, length, get_or, take, drop}
+use Rattle.std.specs.Prelude.{◌≡◌, Bool, true, false, ◌||◌, Option, Some, None, List, [], ◌∷◌, ◌++◌, ℕ, ◌+◌, ◌*◌, ◌≤◌, ◌<◌, length, get_or, take, drop}
 use Rattle.std.proofs.Math.Option.{some}
 use Rattle.meaning.specs.Elements.{Element, kind, cut, is_kind, size}
 use Rattle.meaning.specs.Machine.{holds}
@@ -7,6 +7,7 @@ use Rattle.meaning.proofs.Cutting.{Whole}
 use Rattle.meaning.proofs.Balance.{brackets}
 use Rattle.meaning.proofs.Programs.{Solid}
 use Rattle.kinds.specs.Stacks.{stack}
+use Rattle.scanning.specs.declared.Spread.{Spread}
 
 -- the elements of the first `used` bytes
 unfoldable pub field_of : List ℕ → ℕ → List Element
@@ -81,13 +82,24 @@ pub record Reached (f : List ℕ) (lo hi at read depth top : ℕ) (calls : List 
   pub inside : top ≤ length calls
 
 -- the next < or >, if there is one
-pub record Next (f : List ℕ) (lo hi : ℕ) (calls : List ℕ) (here : Bool) (at read depth top : ℕ) : Type 0 where
-  pub yes : here ≡ true → Reached f lo hi at read depth top calls
-  pub no : here ≡ false → holds 6 (field_at f lo hi) ≡ false
+pub record Next (f : List ℕ) (lo hi : ℕ) (calls : List ℕ) (at : Option ℕ) (read depth top : ℕ) : Type 0 where
+  pub yes : (k : ℕ) → at ≡ Some k → Reached f lo hi k read depth top calls
+  pub no : at ≡ None → holds 6 (field_at f lo hi) ≡ false
 
 -- the same field; the next > is reached, or there is none
-pub record Advanced (f₀ : List ℕ) (lo₀ hi₀ : ℕ) (f : List ℕ) (lo hi : ℕ) (calls : List ℕ) (here : Bool) (at read depth top : ℕ) : Type 0 where
+pub record Advanced (f₀ : List ℕ) (lo₀ hi₀ : ℕ) (f : List ℕ) (lo hi : ℕ) (calls : List ℕ) (at : Option ℕ) (read depth top : ℕ) : Type 0 where
   pub good : Good f lo hi
   pub same : field_at f lo hi ≡ field_at f₀ lo₀ hi₀
-  pub next : Next f lo hi calls here at read depth top
-  pub shuts : here ≡ true → get_or f at 0 ≡ 7
+  pub next : Next f lo hi calls at read depth top
+  pub shuts : (k : ℕ) → at ≡ Some k → get_or f k 0 ≡ 7
+
+-- the notes have room for two brackets a call, which is four bytes long at least
+abbrev pub Roomy : List ℕ → List ℕ → Type 0
+Roomy f calls = (length f ≤ 65536) × (length f ≤ 2 * length calls)
+
+-- the same by a spread's parts
+abbrev pub Stands : List ℕ → Spread → List ℕ → Type 0
+Stands f s calls = Standing f s.lo s.hi s.read s.depth s.top calls
+
+abbrev pub Reaches : List ℕ → Spread → ℕ → List ℕ → Type 0
+Reaches f s at calls = Reached f s.lo s.hi at s.read s.depth s.top calls

@@ -4,7 +4,7 @@
 ghost use Rattle.std.specs.Prelude.{◌≡◌, ◌+◌, ◌*◌, ◌≤◌, ◌<◌, length, get_or, drop};
 ghost use Rattle.meaning.specs.Elements.{cut, size};
 ghost use Rattle.meaning.proofs.Cutting.{Whole};
-ghost use Rattle.scanning.specs.State.{field_at, calm, Good, Standing, Reached, Next, Advanced};
+ghost use Rattle.scanning.specs.State.{field_at, calm, Good, Next, Advanced, Roomy, Stands, Reaches};
 
 use elements::Cursor;
 
@@ -19,11 +19,10 @@ pub struct Spread {
     pub top: usize,
 }
 
-// The next call bracket behind the gap, taken off the notes.
+// The next call bracket behind the gap, if there is one; it is taken off the notes.
 #[derive(Clone, Copy)]
 pub struct Mark {
-    pub here: bool,
-    pub at: usize,
+    pub at: Option<usize>,
     pub spread: Spread,
 }
 
@@ -52,34 +51,29 @@ fn next_bracket(field: &[u8], at: usize) -> usize
 // The next call bracket, from the notes or, where these are used up, read off the field.
 fn next_mark(field: &[u8], mut s: Spread, calls: &[u16]) -> Mark
     requires good { Good field.now s.lo s.hi }
-    requires field_len_bound { (length field.now ≤ 65536) × (length field.now ≤ 2 * length calls.now) }
-    requires standing { Standing field.now s.lo s.hi s.read s.depth s.top calls.now }
-    ensures { (result.spread.lo ≡ s.lo) × (result.spread.hi ≡ s.hi) × (result.spread.depth ≡ s.depth) × Next field.now s.lo s.hi calls.now result.here result.at result.spread.read s.depth result.spread.top }
+    requires roomy { Roomy field.now calls.now }
+    requires standing { Stands field.now s calls.now }
+    ensures { (result.spread.lo ≡ s.lo) × (result.spread.hi ≡ s.hi) × (result.spread.depth ≡ s.depth) × Next field.now s.lo s.hi calls.now result.at result.spread.read s.depth result.spread.top }
 {
-    let top = s.top;
-    if top < calls.len() {
-        s.top = top + 1;
+    if let Some(at) = calls.get(s.top) {
+        s.top += 1;
         return Mark {
-            here: true,
-            at: calls[top] as usize,
+            at: Some(*at as usize),
             spread: s,
         };
     }
     let at = next_bracket(field, s.read);
     if at == field.len() {
         return Mark {
-            here: false,
-            at,
+            at: None,
             spread: s,
         };
     }
     let c = Cursor { at };
     let passed = c.pass(field);
-    let next = passed.next;
-    s.read = next.at;
+    s.read = passed.next.at;
     Mark {
-        here: true,
-        at,
+        at: Some(at),
         spread: s,
     }
 }
@@ -87,13 +81,13 @@ fn next_mark(field: &[u8], mut s: Spread, calls: &[u16]) -> Mark
 // Brings all up to the < at `at` before the gap, and notes the call as open.
 fn pass_call(field: &mut [u8], mut s: Spread, at: usize, calls: &mut [u16]) -> Spread
     requires good { Good field.old s.lo s.hi }
-    requires field_len_bound { (length field.old ≤ 65536) × (length field.old ≤ 2 * length calls.old) }
-    requires reached { Reached field.old s.lo s.hi at s.read s.depth s.top calls.old × (get_or field.old at 0 ≡ 6) }
-    ensures { Good field.new result.lo result.hi × (field_at field.new result.lo result.hi ≡ field_at field.old s.lo s.hi) × (s.hi < result.hi) × Standing field.new result.lo result.hi result.read result.depth result.top calls.new }
+    requires roomy { Roomy field.old calls.old }
+    requires reached { Reaches field.old s at calls.old × (get_or field.old at 0 ≡ 6) }
+    ensures { Good field.new result.lo result.hi × (field_at field.new result.lo result.hi ≡ field_at field.old s.lo s.hi) × (s.hi < result.hi) × Stands field.new result calls.new }
 {
     let n = at + 3 - s.hi;
     let depth = s.depth;
-    moving::move_down(field, s.hi, s.lo, n);
+    moving::shift(field, s.hi, s.lo, n);
     calls[depth] = (s.lo + n - 3) as u16;
     s.lo = s.lo + n;
     s.hi = s.hi + n;
@@ -104,17 +98,16 @@ fn pass_call(field: &mut [u8], mut s: Spread, at: usize, calls: &mut [u16]) -> S
 // On to the first >: every < before it is opened.
 pub fn advance(field: &mut [u8], spread: Spread, calls: &mut [u16]) -> Mark
     requires good { Good field.old spread.lo spread.hi }
-    requires field_len_bound { (length field.old ≤ 65536) × (length field.old ≤ 2 * length calls.old) }
-    requires standing { Standing field.old spread.lo spread.hi spread.read spread.depth spread.top calls.old }
-    ensures { Advanced field.old spread.lo spread.hi field.new result.spread.lo result.spread.hi calls.new result.here result.at result.spread.read result.spread.depth result.spread.top }
+    requires roomy { Roomy field.old calls.old }
+    requires standing { Stands field.old spread calls.old }
+    ensures { Advanced field.old spread.lo spread.hi field.new result.spread.lo result.spread.hi calls.new result.at result.spread.read result.spread.depth result.spread.top }
 {
     let mut s = spread;
     loop {
         let mark = next_mark(field, s, calls);
-        if !mark.here {
+        let Some(at) = mark.at else {
             return mark;
-        }
-        let at = mark.at;
+        };
         if field[at] == kinds::RETURN {
             return mark;
         }

@@ -1,6 +1,6 @@
 -- The step, from what its calls gave.
 use mathlib.Core.Path.{◌≡◌, refl, sym, ◌∙◌, ap, subst}
-use mathlib.Core.Bool.{Bool, true, false}
+use mathlib.Core.Bool.{true, false}
 use mathlib.Core.Option.{Option, none, some}
 use mathlib.Core.List.{List, [], ◌∷◌, ◌++◌, append_assoc}
 use Prim.Native.Nat.{ℕ, ◌+◌, ◌-◌, ◌*◌, ◌≤◌, ◌<◌}
@@ -19,8 +19,12 @@ use Rattle.scanning.specs.State.{field_at, Good, marks_of}
 use Rattle.building.specs.Build.{side_of, pour, Ready, Calm, spans, calls_of, placed, Given, Measured}
 use Rattle.building.proofs.Spans.{pour_long}
 use Rattle.choosing.specs.Choose.{rest_of, sentences, Looked, there, nowhere, Chosen, none_fits, one_fits}
-use Rattle.choosing.specs.declared.Spot.{Spot}
-use Rattle.choosing.specs.declared.Spot.TheVariants.{At, Nowhere}
+use Rattle.std.specs.Prelude.{Option as Found, Some, None, Result, Ok, Err}
+use Rattle.building.specs.declared.Extent.{Extent}
+use Rattle.building.specs.declared.Side.{Side as Part}
+use Rattle.std.specs.Option.{ok_or}
+use Rattle.stepping.specs.declared.Stuck.{Stuck}
+use Rattle.stepping.specs.declared.Stuck.TheVariants.{NoMatch, NoFunction, NoRoom}
 use Rattle.stepping.specs.Stepping.{argument_of, Term, Under, Stepped, stays, goes}
 use Rattle.kinds.proofs.Stacks.{stack_sets, stack_long}
 use Rattle.stepping.proofs.Count.{calls_append, opens_calls, calls_fit, marks_append, marks_long, marks_put, placed_long, noted-top}
@@ -32,19 +36,19 @@ pub record Place (p name : List ℕ) (i : Cursor) : Type 0 where
   pub whole : Whole (rest_of p i.at)
   pub body : Body (rest_of p i.at)
 
-pub place : (p name : List ℕ) (i : Cursor) → Looked p name (At i) → Place p name i
+pub place : (p name : List ℕ) (i : Cursor) → Looked p name (Some i) → Place p name i
 place p name i l = go l refl
   where
-    go : {s : Spot} → Looked p name s → s ≡ At i → Place p name i
+    go : {s : Found Cursor} → Looked p name s → s ≡ Some i → Place p name i
     go (nowhere h) e = never (cc)
     go (there {c = j} h l w b) e =
         let q : j ≡ i = cc in
         subst (Place p name) q (record { is = h; upto = l; whole = w; body = b })
 
-pub nowhere_is : (p name : List ℕ) → Looked p name Nowhere → function name (rest_of p 0) ≡ none
+pub nowhere_is : (p name : List ℕ) → Looked p name None → function name (rest_of p 0) ≡ none
 nowhere_is p name l = go l refl
   where
-    go : {s : Spot} → Looked p name s → s ≡ Nowhere → function name (rest_of p 0) ≡ none
+    go : {s : Found Cursor} → Looked p name s → s ≡ None → function name (rest_of p 0) ≡ none
     go (nowhere h) e = h
     go (there h l w b) e = never (cc)
 
@@ -62,71 +66,78 @@ pub record Side (p f b : List ℕ) (o : Option (List Element)) (a e : ℕ) : Typ
   pub vars : (v : Element) → among v (side_of p a e) ≡ true → is_variable v ≡ true → Calm f b v (val v)
   pub lits : (v : Element) → is_variable v ≡ false → val v ≡ v ∷ []
 
-pub side : {p f b : List ℕ} {o : Option (List Element)} {x : Bool} {a e : ℕ} → Chosen p f b o x a e → x ≡ true → Side p f b o a e
+pub side : {p f b : List ℕ} {o : Option (List Element)} {r : Found Part} {d : Part} → Chosen p f b o r → r ≡ Some d → Side p f b o d.from d.to
 side (none_fits h) z = never (cc)
-side (one_fits r val h wr u v w y q ri vs ls) z = record { r = r; is = h; r_whole = wr; up = u; upto = v; whole = w; ready = y; bytes = q; val = val; r_is = ri; vars = vs; lits = ls }
+side {p} {f} {b} {o} {d = d} (one_fits {a} {e} r val h wr u v w y q ri vs ls) z =
+    let g : Side p f b o a e = record { r = r; is = h; r_whole = wr; up = u; upto = v; whole = w; ready = y; bytes = q; val = val; r_is = ri; vars = vs; lits = ls } in
+    let k : ◌≡◌ {A = Part} (record { from = a; to = e }) d = cc in
+    subst (λ (x : Part). Side p f b o x.from x.to) k g
 
-none_of : {p f b : List ℕ} {o : Option (List Element)} {x : Bool} {a e : ℕ} → Chosen p f b o x a e → x ≡ false → o ≡ none
+none_of : {p f b : List ℕ} {o : Option (List Element)} {r : Found Part} → Chosen p f b o r → r ≡ None → o ≡ none
 none_of (none_fits h) z = h
 none_of (one_fits r val h wr u v w y q ri vs ls) z = never (cc)
 
+-- what a missing value is refused with
+pub refused : {A : Type 0} {o : Found A} {e w : Stuck} → o ≡ None → ◌≡◌ {A = Result A Stuck} (Err e) (ok_or o w) → e ≡ w
+refused h k = let q = rw h at k in cc
+
 -- NO FUNCTION, NO MATCH
-pub stays_3 : {p f : List ℕ} {from hi at : ℕ} → Good f (from + 3) hi → Term f from hi at → Looked p (get_or f (from + 1) 0 ∷ get_or f (from + 2) 0 ∷ []) Nowhere
-    → {read depth h t : ℕ} {cs : List ℕ}
-    → Stepped f from read depth (step (rest_of p 0) (length f) (field_at f (from + 3) hi)) 3 h t f cs
-stays_3 {p} {f} g t l = stays (no_function g t p (length f) (nowhere_is p _ l)) (λ z. never (omega arith)) refl
+pub stays_3 : {p f : List ℕ} {from hi at : ℕ} → Good f (from + 3) hi → Term f from hi at → Looked p (get_or f (from + 1) 0 ∷ get_or f (from + 2) 0 ∷ []) None
+    → {read depth : ℕ} {cs : List ℕ}
+    → Stepped f from read depth (step (rest_of p 0) (length f) (field_at f (from + 3) hi)) (Err NoFunction) f cs
+stays_3 {p} {f} g t l = stays (no_function g t p (length f) (nowhere_is p _ l)) refl
 
 module _ {p f : List ℕ} {from hi at : ℕ} {body : Cursor} (g : Good f (from + 3) hi) {read depth top : ℕ} {notes : List ℕ} (u : Under f from hi at read depth top notes)
-    (l : Looked p (get_or f (from + 1) 0 ∷ get_or f (from + 2) 0 ∷ []) (At body)) where
+    (l : Looked p (get_or f (from + 1) 0 ∷ get_or f (from + 2) 0 ∷ []) (Some body)) where
   k : Place p (get_or f (from + 1) 0 ∷ get_or f (from + 2) 0 ∷ []) body
   k = place p _ body l
 
-  pub stays_2 : {b : List ℕ} {x : Bool} {a e : ℕ} → Chosen p (argument_of f hi at) b (apply (sentences (rest_of p body.at)) (elements (argument_of f hi at))) x a e → x ≡ false
-      → {h w : ℕ} {cs : List ℕ} → Stepped f from read depth (step (rest_of p 0) (length f) (field_at f (from + 3) hi)) 2 h w f cs
+  pub stays_2 : {b : List ℕ} {x : Found Part} → Chosen p (argument_of f hi at) b (apply (sentences (rest_of p body.at)) (elements (argument_of f hi at))) x → x ≡ None
+      → {cs : List ℕ} → Stepped f from read depth (step (rest_of p 0) (length f) (field_at f (from + 3) hi)) (Err NoMatch) f cs
   stays_2 c z =
       let none_fits = ap (apply (sentences (rest_of p body.at))) (sym (arg_is g u.term)) ∙ none_of c z in
-      stays (no_match g u.term p (length f) (sentences (rest_of p body.at)) k.is none_fits) (λ z. never (omega arith)) refl
+      stays (no_match g u.term p (length f) (sentences (rest_of p body.at)) k.is none_fits) refl
 
   -- A SENTENCE FITS
-  module _ {b : List ℕ} {x : Bool} {a e : ℕ} (c : Chosen p (argument_of f hi at) b (apply (sentences (rest_of p body.at)) (elements (argument_of f hi at))) x a e) (z : x ≡ true) where
-    pub sd : Side p (argument_of f hi at) b (apply (sentences (rest_of p body.at)) (elements (argument_of f hi at))) a e
+  module _ {b : List ℕ} {x : Found Part} {d : Part} (c : Chosen p (argument_of f hi at) b (apply (sentences (rest_of p body.at)) (elements (argument_of f hi at))) x) (z : x ≡ Some d) where
+    pub sd : Side p (argument_of f hi at) b (apply (sentences (rest_of p body.at)) (elements (argument_of f hi at))) d.from d.to
     sd = side c z
 
     ap_is : apply (sentences (rest_of p body.at)) u.term.x ≡ some sd.r
     ap_is = ap (apply (sentences (rest_of p body.at))) (sym (arg_is g u.term)) ∙ sd.is
 
-    pub in_given : length f ≤ 65536 → Given p a e b
+    pub in_given : length f ≤ 65536 → Given p d.from d.to b
     in_given h = record { upto = sd.up; fits = sd.upto; arg = argument_of f hi at; short = omega (arith, length-take (at - hi) (drop hi f), length-drop hi f); ready = sd.ready }
 
-    long_r : spans b (side_of p a e) ≡ size sd.r
+    long_r : spans b (side_of p d.from d.to) ≡ size sd.r
     unfolding size
     long_r = sym (pour_long sd.ready) ∙ ap length sd.bytes
 
-    pub stays_4 : {m : Bool} {n calls pivot : ℕ} → Measured p a e b (at + 1 - from) m n calls pivot → m ≡ false → {h w : ℕ} {cs : List ℕ}
-        → Stepped f from read depth (step (rest_of p 0) (length f) (field_at f (from + 3) hi)) 4 h w f cs
+    pub stays_4 : {m : Found Extent} → Measured p d.from d.to b (at + 1 - from) m → m ≡ None → {cs : List ℕ}
+        → Stepped f from read depth (step (rest_of p 0) (length f) (field_at f (from + 3) hi)) (Err NoRoom) f cs
     stays_4 m y =
         let more : at + 1 - from < size sd.r = (let q = m.no y in omega (arith, long_r)) in
-        stays (no_room g u.term p (length f) (sentences (rest_of p body.at)) k.is sd.r refl ap_is more) (λ z. never (omega arith)) refl
+        stays (no_room g u.term p (length f) (sentences (rest_of p body.at)) k.is sd.r refl ap_is more) refl
 
-    module _ {m : Bool} {n calls pivot : ℕ} (ms : Measured p a e b (at + 1 - from) m n calls pivot) (y : m ≡ true) where
-      n_is : n ≡ size sd.r
-      n_is = (ms.yes y).0 ∙ long_r
+    module _ {m : Found Extent} {v : Extent} (ms : Measured p d.from d.to b (at + 1 - from) m) (y : m ≡ Some v) where
+      n_is : v.size ≡ size sd.r
+      n_is = (ms.yes v y).0 ∙ long_r
 
-      fit : n ≤ at + 1 - from
-      fit = (ms.yes y).1
+      fit : v.size ≤ at + 1 - from
+      fit = (ms.yes v y).1
 
       pub step_is : step (rest_of p 0) (length f) (field_at f (from + 3) hi) ≡ onward (u.term.a ++ sd.r ++ u.term.b)
       step_is = new_field g u.term p (length f) (sentences (rest_of p body.at)) k.is sd.r refl ap_is (let q = fit in omega (arith, n_is))
 
-      pub start_in : (n ≤ at + 1) × (at < length f) × (at + 1 - n + spans b (side_of p a e) ≡ at + 1)
-      start_in = let q = fit in let pl = places g u.term in (omega arith, pl.2, omega (arith, (ms.yes y).0))
+      pub start_in : (v.size ≤ at + 1) × (at < length f) × (at + 1 - v.size + spans b (side_of p d.from d.to) ≡ at + 1)
+      start_in = let q = fit in let pl = places g u.term in (omega arith, pl.2, omega (arith, (ms.yes v y).0))
 
       module _ (ok : Functions (rest_of p 0)) (room : length f ≤ 2 * length notes) where
         new : List Element
         new = u.term.a ++ sd.r ++ u.term.b
 
         -- all brackets have room in the notes
-        pub in_count : depth + calls_of (side_of p a e) ≤ top
+        pub in_count : depth + calls_of (side_of p d.from d.to) ≤ top
         unfolding new
         in_count =
             let wn : Whole new = new_whole g u.term sd.r_whole in
@@ -136,9 +147,9 @@ module _ {p f : List ℕ} {from hi at : ℕ} {body : Cursor} (g : Good f (from +
             let q3 = calls_append u.term.a sd.r in
             let q4 = ap calls_of u.behind ∙ calls_append u.known u.unread in
             let q5 = opens_calls u.opened ∙ stack_long depth notes in
-            let q6 : calls_of sd.r ≡ calls_of (side_of p a e) =
+            let q6 : calls_of sd.r ≡ calls_of (side_of p d.from d.to) =
             sym (marks_long sd.r 0) ∙ ap (λ (es : List Element). length (marks_of 0 es)) sd.r_is
-            ∙ ap length (marks_put (argument_of f hi at) b sd.val (side_of p a e) 0 sd.vars sd.lits) ∙ placed_long (side_of p a e) b 0 in
+            ∙ ap length (marks_put (argument_of f hi at) b sd.val (side_of p d.from d.to) 0 sd.vars sd.lits) ∙ placed_long (side_of p d.from d.to) b 0 in
             let q7 : calls_of u.known ≡ length notes - top = sym (marks_long u.known (at + 1)) ∙ ap length (sym u.marked) ∙ length-drop top notes in
             let ns = new_size g u.term p (length f) (sentences (rest_of p body.at)) k.is sd.r in
             let ft = fit in
@@ -146,36 +157,36 @@ module _ {p f : List ℕ} {from hi at : ℕ} {body : Cursor} (g : Good f (from +
             let i = u.inside in
             omega (arith, q1, q2, q3, q4, q5, q6, q7, ns, ft, n_is, pl.0, pl.1, i)
 
-        module _ {f' notes' : List ℕ} (ef : f' ≡ take (at + 1 - spans b (side_of p a e)) f ++ (pour (argument_of f hi at) b (side_of p a e) ++ drop (at + 1) f))
-            (en : notes' ≡ sets notes (top - calls) (placed (at + 1 - n) b (side_of p a e))) where
-          ef' : f' ≡ take (at + 1 - n) f ++ (pour (argument_of f hi at) b (side_of p a e) ++ drop (at + 1) f)
-          ef' = rw (ms.yes y).0 ef
+        module _ {f' notes' : List ℕ} (ef : f' ≡ take (at + 1 - spans b (side_of p d.from d.to)) f ++ (pour (argument_of f hi at) b (side_of p d.from d.to) ++ drop (at + 1) f))
+            (en : notes' ≡ sets notes (top - v.calls) (placed (at + 1 - v.size) b (side_of p d.from d.to))) where
+          ef' : f' ≡ take (at + 1 - v.size) f ++ (pour (argument_of f hi at) b (side_of p d.from d.to) ++ drop (at + 1) f)
+          ef' = rw (ms.yes v y).0 ef
 
-          is : field_at f' from (at + 1 - n) ≡ u.term.a ++ sd.r ++ u.term.b
-          is = new_is g u.term sd.r _ n sd.bytes n_is fit f' ef' sd.r_whole
+          is : field_at f' from (at + 1 - v.size) ≡ u.term.a ++ sd.r ++ u.term.b
+          is = new_is g u.term sd.r _ v.size sd.bytes n_is fit f' ef' sd.r_whole
 
-          marked : drop (top - calls) notes' ≡ marks_of (at + 1 - n) (sd.r ++ u.known)
+          marked : drop (top - v.calls) notes' ≡ marks_of (at + 1 - v.size) (sd.r ++ u.known)
           marked =
-              let c = (ms.yes y).2 in
+              let c = (ms.yes v y).2 in
               let cn = in_count in
-              let pl = placed_long (side_of p a e) b (at + 1 - n) in
-              let q : at + 1 - n + size sd.r ≡ at + 1 = (let ft = fit in omega (arith, n_is)) in
-              let r_marks : marks_of (at + 1 - n) sd.r ≡ placed (at + 1 - n) b (side_of p a e) =
-              ap (marks_of (at + 1 - n)) sd.r_is ∙ marks_put (argument_of f hi at) b sd.val (side_of p a e) (at + 1 - n) sd.vars sd.lits in
-              ap (drop (top - calls)) en ∙ noted-top notes (placed (at + 1 - n) b (side_of p a e)) (top - calls) top (omega (arith, c, pl, cn)) u.inside
-              ∙ ap {B = List ℕ} (λ l. placed (at + 1 - n) b (side_of p a e) ++ l) u.marked
-              ∙ sym (marks_append sd.r u.known (at + 1 - n) ∙ rw q (ap (λ (l : List ℕ). l ++ marks_of (at + 1) u.known) r_marks))
+              let pl = placed_long (side_of p d.from d.to) b (at + 1 - v.size) in
+              let q : at + 1 - v.size + size sd.r ≡ at + 1 = (let ft = fit in omega (arith, n_is)) in
+              let r_marks : marks_of (at + 1 - v.size) sd.r ≡ placed (at + 1 - v.size) b (side_of p d.from d.to) =
+              ap (marks_of (at + 1 - v.size)) sd.r_is ∙ marks_put (argument_of f hi at) b sd.val (side_of p d.from d.to) (at + 1 - v.size) sd.vars sd.lits in
+              ap (drop (top - v.calls)) en ∙ noted-top notes (placed (at + 1 - v.size) b (side_of p d.from d.to)) (top - v.calls) top (omega (arith, c, pl, cn)) u.inside
+              ∙ ap {B = List ℕ} (λ l. placed (at + 1 - v.size) b (side_of p d.from d.to) ++ l) u.marked
+              ∙ sym (marks_append sd.r u.known (at + 1 - v.size) ∙ rw q (ap (λ (l : List ℕ). l ++ marks_of (at + 1) u.known) r_marks))
 
-          pub in_done : Stepped f from read depth (step (rest_of p 0) (length f) (field_at f (from + 3) hi)) 0 (at + 1 - n) (top - calls) f' notes'
+          pub in_done : Stepped f from read depth (step (rest_of p 0) (length f) (field_at f (from + 3) hi)) (Ok (record { hi = at + 1 - v.size; top = top - v.calls })) f' notes'
           in_done =
-              let c = (ms.yes y).2 in
+              let c = (ms.yes v y).2 in
               let cn = in_count in
               let ft = fit in
               let plc = places g u.term in
-              let pl = placed_long (side_of p a e) b (at + 1 - n) in
+              let pl = placed_long (side_of p d.from d.to) b (at + 1 - v.size) in
               let ins = u.inside in
-              goes {hi = at + 1 - n} {top = top - calls} {f' = f'} {calls = notes'} (omega (arith, ft, plc.0, plc.1)) (omega (arith, plc.2))
-              (new_long g u.term sd.r _ n sd.bytes n_is fit f' ef') (step_is ∙ ap onward (sym is))
+              goes {hi = at + 1 - v.size} {top = top - v.calls} {f' = f'} {calls = notes'} (omega (arith, ft, plc.0, plc.1)) (omega (arith, plc.2))
+              (new_long g u.term sd.r _ v.size sd.bytes n_is fit f' ef') (step_is ∙ ap onward (sym is))
               (record {
                 front = u.term.a;
                 known = sd.r ++ u.known;
@@ -185,9 +196,9 @@ module _ {p f : List ℕ} {from hi at : ℕ} {body : Cursor} (g : Good f (from +
                     ∙ ap {B = List Element} (λ l. u.term.a ++ l) (sym (append_assoc sd.r u.known u.unread));
                 low = sym u.term.from_is;
                 up = omega (arith, u.up, size-append sd.r u.known, n_is, ft, plc.0, plc.1);
-                opened = rw (en, stack_sets notes (placed (at + 1 - n) b (side_of p a e)) (top - calls) depth (omega (arith, c, cn)) (omega (arith, c, pl, cn, ins))) u.opened;
+                opened = rw (en, stack_sets notes (placed (at + 1 - v.size) b (side_of p d.from d.to)) (top - v.calls) depth (omega (arith, c, cn)) (omega (arith, c, pl, cn, ins))) u.opened;
                 deep = u.deep;
                 marked = marked;
                 below = omega (arith, c, cn);
-                inside = omega (arith, ap length en, length-sets notes (top - calls) (placed (at + 1 - n) b (side_of p a e)), ins);
+                inside = omega (arith, ap length en, length-sets notes (top - v.calls) (placed (at + 1 - v.size) b (side_of p d.from d.to)), ins);
               })

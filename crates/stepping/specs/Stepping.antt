@@ -1,9 +1,13 @@
 -- A step as the code makes it.
-use Rattle.std.specs.Prelude.{◌≡◌, List, ◌∷◌, ◌++◌, ℕ, ◌+◌, ◌*◌, ◌-◌, ◌≤◌, length, take, drop}
+use Rattle.std.specs.Prelude.{◌≡◌, Result, Ok, Err, List, ◌∷◌, ◌++◌, ℕ, ◌+◌, ◌*◌, ◌-◌, ◌≤◌, length, take, drop}
 use Rattle.meaning.specs.Elements.{Element, kind, size}
 use Rattle.meaning.specs.Machine.{lead, leading, Step, stuck, onward}
 use Rattle.kinds.specs.Stacks.{stack}
 use Rattle.scanning.specs.State.{field_at, Opens, marks_of, Standing}
+use Rattle.stepping.specs.declared.Lead.{Lead}
+use Rattle.stepping.specs.declared.Onward.{Onward}
+use Rattle.stepping.specs.declared.Stuck.{Stuck}
+use Rattle.stepping.specs.declared.Stuck.TheVariants.{NoMatch, NoFunction, NoRoom}
 
 -- the bytes of an argument that begins behind the gap and ends before the > at `at`
 abbrev pub argument_of : List ℕ → ℕ → ℕ → List ℕ
@@ -42,8 +46,17 @@ pub record Placed (f : List ℕ) (from hi at top : ℕ) (calls : List ℕ) : Typ
   pub depth : ℕ
   pub under : Under f from hi at read depth top calls
 
+abbrev pub Led : List ℕ → Lead → List ℕ → Type 0
+Led f l calls = Placed f l.from l.hi l.at l.top calls
+
+-- the paper's number of each reason
+abbrev pub reason_of : Stuck → ℕ
+reason_of NoMatch = 2
+reason_of NoFunction = 3
+reason_of NoRoom = 4
+
 -- what the step o did to the field
-pub data Stepped (f : List ℕ) (from read depth : ℕ) (o : Step) : ℕ → ℕ → ℕ → List ℕ → List ℕ → Type 0 where
-  stays : {c hi top : ℕ} {f' calls : List ℕ} → o ≡ stuck c from → (c ≡ 0 → ⊥) → f' ≡ f → Stepped f from read depth o c hi top f' calls
+pub data Stepped (f : List ℕ) (from read depth : ℕ) (o : Step) : Result Onward Stuck → List ℕ → List ℕ → Type 0 where
+  stays : {s : Stuck} {f' calls : List ℕ} → o ≡ stuck (reason_of s) from → f' ≡ f → Stepped f from read depth o (Err s) f' calls
   goes : {hi top : ℕ} {f' calls : List ℕ} → from ≤ hi → hi ≤ length f → length f' ≡ length f → o ≡ onward (field_at f' from hi) → Standing f' from hi read depth top calls
-      → Stepped f from read depth o 0 hi top f' calls
+      → Stepped f from read depth o (Ok (record { hi = hi; top = top })) f' calls

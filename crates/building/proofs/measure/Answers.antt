@@ -10,7 +10,7 @@ pub span_of-span-requires : goal.span_of-span-requires
 span_of-span-requires c =
     let i = c.loop-at.invariant.2 in
     let w = walk _ _ _ _ _ c.requires.given.fits c.loop-at-test.true i.whole i.ready _ c.length_of-len.ensures.0 in
-    record { spanned = record { arg = c.loop-at.invariant.0; known = w.known }; binds_len = c.requires.binds_len.0 }
+    record { arg = c.loop-at.invariant.0; known = w.known }
 
 pub overflow_sub-limit : goal.overflow_sub-limit
 overflow_sub-limit c =
@@ -29,7 +29,7 @@ counted-calls-requires c =
     let k = i.few in
     let t = c.loop-at-test.true in
     let f = c.requires.given.fits in
-    let s = c.requires.binds_len.1 in
+    let s = c.requires.program_len_bound in
     omega arith
 
 pub overflow_add-at : goal.overflow_add-at

@@ -8,7 +8,7 @@ returns-then-pivot-to c = λ arg from piv w up fits r. rw c.if-pivot-to.true (pa
 
 pub bounds-program-pivot : goal.bounds-program-pivot
 bounds-program-pivot c =
-    let P = c.requires.pivoted in
+    let P = c.requires in
     let g = P.given in
     let k = inside _ _ _ _ _ _ (turn P.pivot_is c.if-pivot-to.false) P.whole g.upto g.fits g.ready in
     let z = g.fits in
@@ -16,7 +16,7 @@ bounds-program-pivot c =
 
 pub overflow_add-pivot : goal.overflow_add-pivot
 overflow_add-pivot c =
-    let P = c.requires.pivoted in
+    let P = c.requires in
     let g = P.given in
     let k = inside _ _ _ _ _ _ (turn P.pivot_is c.if-pivot-to.false) P.whole g.upto g.fits g.ready in
     let z = g.fits in
@@ -24,7 +24,7 @@ overflow_add-pivot c =
 
 pub bounds-program-pivot-2 : goal.bounds-program-pivot-2
 bounds-program-pivot-2 c =
-    let P = c.requires.pivoted in
+    let P = c.requires in
     let g = P.given in
     let T = turn P.pivot_is c.if-pivot-to.false in
     let k = (step _ _ _ _ _ _ T P.whole g.upto g.fits g.ready).within in
@@ -34,7 +34,7 @@ bounds-program-pivot-2 c =
 
 pub slot-slot-requires : goal.slot-slot-requires
 slot-slot-requires c =
-    let P = c.requires.pivoted in
+    let P = c.requires in
     let g = P.given in
     let T = turn P.pivot_is c.if-pivot-to.false in
     let s = sorts _ _ _ _ _ _ T P.whole g.upto g.fits g.ready in
@@ -43,7 +43,7 @@ slot-slot-requires c =
 
 pub overflow_add-result-2 : goal.overflow_add-result-2
 overflow_add-result-2 c =
-    let P = c.requires.pivoted in
+    let P = c.requires in
     let g = P.given in
     let T = turn P.pivot_is c.if-pivot-to.false in
     let k = (step _ _ _ _ _ _ T P.whole g.upto g.fits g.ready).within in

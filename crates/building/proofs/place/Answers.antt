@@ -4,46 +4,44 @@ use Rattle.building.proofs.place.Goals as goal
 
 pub pivot_part-value-requires : goal.pivot_part-value-requires
 pivot_part-value-requires c =
-    let a = c.requires.from_le_to in
-    let h = c.requires.hi_le_at in record {
-      pivoted = record {
-        from = c.args.from;
-        given = record {
-          upto = a.0;
-          fits = a.1;
-          arg = _;
-          short = argument_short c.args.field.now c.args.hi c.args.at h.2;
-          ready = c.requires.ready;
-        };
-        whole = a.2;
-        pivot_is = a.3;
+    let a = c.requires.in_program in
+    let h = c.requires.hi_le_at in
+    record {
+      from = c.args.side.from;
+      given = record {
+        upto = a.0;
+        fits = a.1;
+        arg = _;
+        short = argument_short c.args.field.now c.args.hi c.args.at h.2;
+        ready = c.requires.ready;
       };
-      binds_len = c.requires.binds_len.0;
+      whole = a.2;
+      pivot_is = a.3;
     }
 
 pub fill-built-requires : goal.fill-built-requires
 fill-built-requires c =
-    let a = c.requires.from_le_to in
+    let a = c.requires.in_program in
     let r = c.requires.ready in
-    let k = c.requires.binds_len in
+    let k = c.requires.room in
     let q = c.pivot_part-value.ensures _ _ a.3 a.2 a.0 a.1 r in
     let h = c.requires.hi_le_at in
     record {
-      from_le_pivot = (q.upto.0, q.upto.1, q.upto_next, a.1);
-      whole = q.before;
-      whole_2 = q.after;
-      binds_len = (k.0, (let z = parts_long _ _ _ _ _ _ _ _ _ _ _ h.0 h.1 q r in let y = k.1 in let x = k.2 in let w = h.1 in omega arith));
+      in_program = (q.upto.0, q.upto.1, q.upto_next, a.1);
+      before = q.before;
+      behind = q.after;
+      room = (let z = parts_long _ _ _ _ _ _ _ _ _ _ _ h.0 h.1 q r in let y = k.0 in let x = k.1 in let w = h.1 in omega arith);
     }
 
 pub overflow_sub-v : goal.overflow_sub-v
 overflow_sub-v c =
-    let a = c.requires.from_le_to in
+    let a = c.requires.in_program in
     let q = c.pivot_part-value.ensures _ _ a.3 a.2 a.0 a.1 c.requires.ready in
     q.value.0
 
 pub overflow_add-hi : goal.overflow_add-hi
 overflow_add-hi c =
-    let a = c.requires.from_le_to in
+    let a = c.requires.in_program in
     let r = c.requires.ready in
     let q = c.pivot_part-value.ensures _ _ a.3 a.2 a.0 a.1 r in
     let h = c.requires.hi_le_at in
@@ -53,9 +51,9 @@ overflow_add-hi c =
 
 pub put_in-requires : goal.put_in-requires
 put_in-requires c =
-    let a = c.requires.from_le_to in
+    let a = c.requires.in_program in
     let r = c.requires.ready in
-    let k = c.requires.binds_len in
+    let k = c.requires.room in
     let q = c.pivot_part-value.ensures _ _ a.3 a.2 a.0 a.1 r in
     let h = c.requires.hi_le_at in
     let u = c.fill-built.ensures in
@@ -63,15 +61,15 @@ put_in-requires c =
     let i = value_inside _ _ _ _ _ _ _ _ _ _ _ h.0 h.1 q r in
     let u0 = u.0 in
     let u1 = u.1 in
-    let k1 = k.1 in
-    let k2 = k.2 in
+    let k1 = k.0 in
+    let k2 = k.1 in
     let h1 = h.1 in
     let l = c.fill-built.auto.scratch in
     (omega arith, omega arith, i, omega arith, omega arith)
 
 pub returns : goal.returns
 returns c =
-    let a = c.requires.from_le_to in
+    let a = c.requires.in_program in
     let r = c.requires.ready in
     let q = c.pivot_part-value.ensures _ _ a.3 a.2 a.0 a.1 r in
     let h = c.requires.hi_le_at in

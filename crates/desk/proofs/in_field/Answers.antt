@@ -1,11 +1,9 @@
-use Rattle.desk.proofs.Pointing.{used_past_field, place_past_used, inside_used}
+use mathlib.Core.Path.{refl, ap, ◌∙◌}
+use denote.Bor.{Bor}
+use mathlib.Core.List.{List}
+use Prim.Native.Nat.{ℕ}
+use Rattle.desk.proofs.Pointing.{part_found}
 use Rattle.desk.proofs.in_field.Goals as goal
 
-pub returns-then-end-used : goal.returns-then-end-used
-returns-then-end-used c = used_past_field _ _ _ c.if-end-used.true
-
-pub returns-then-used-place : goal.returns-then-used-place
-returns-then-used-place c = place_past_used _ _ _ c.if-end-used.false c.if-used-place.true
-
 pub returns : goal.returns
-returns c = inside_used _ _ _ c.if-end-used.false c.if-used-place.false
+returns c = ap (λ (x : Bor (List ℕ)). x.now) c.unwrap_or.ensures ∙ part_found c.args.used c.args.place c.args.field.now c.get.result _ refl c.get.ensures.lookup.0

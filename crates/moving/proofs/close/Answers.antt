@@ -4,4 +4,4 @@ use Rattle.moving.proofs.close.Goals as goal
 
 pub returns : goal.returns
 returns c =
-    (refl, closed _ c.move_down.new.s _ _ c.requires.lo_le_hi c.requires.hi_in_bounds c.move_down.ensures c.clear.ensures)
+    (refl, closed _ c.shift.new.s _ _ c.requires.lo_le_hi c.requires.hi_in_bounds c.shift.ensures c.clear.ensures)

@@ -5,4 +5,4 @@ use Rattle.running.proofs.run_good.Goals as goal
 pub run_noting-requires-2 : goal.run_noting-requires-2
 run_noting-requires-2 c =
     let l = (two_sizes _ _ _ _ c.requires.sizes_fit).1 in
-    record { checked = c.requires; field_len_bound = omega arith }
+    record { checked = c.requires; notes = (omega arith, omega arith) }

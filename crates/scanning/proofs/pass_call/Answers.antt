@@ -3,16 +3,14 @@ use Rattle.scanning.proofs.Scan.{may_move, may_note, in_notes, open_same, open_m
 use mathlib.Core.Path.{refl}
 use Rattle.scanning.proofs.pass_call.Goals as goal
 
-pub move_down-requires : goal.move_down-requires
-move_down-requires c = let both = may_move _ _ _ _ _ _ _ _ c.requires.good c.requires.reached.0 c.requires.reached.1 in
-    record {
-      at_le_from = both.0;
-      n_in_bounds = both.1;
-    }
+pub shift-requires : goal.shift-requires
+shift-requires c =
+    let (down, within) = may_move _ _ _ _ _ _ _ _ c.requires.good c.requires.reached.0 c.requires.reached.1 in
+    record { n_in_bounds = within; n_in_bounds_2 = omega arith }
 
 pub overflow_cast-calls : goal.overflow_cast-calls
 overflow_cast-calls c =
-    let k = may_note _ _ _ _ _ _ _ _ c.requires.good c.requires.reached.0 c.requires.reached.1 c.requires.field_len_bound.0 in
+    let k = may_note _ _ _ _ _ _ _ _ c.requires.good c.requires.reached.0 c.requires.reached.1 c.requires.roomy.0 in
     omega arith
 
 pub bounds-calls-depth : goal.bounds-calls-depth
@@ -23,7 +21,7 @@ returns c =
     let g = c.requires.good in
     let r = c.requires.reached.0 in
     let k = c.requires.reached.1 in
-    let e = c.move_down.ensures in (
+    let e = c.shift.ensures in (
       open_good _ _ _ _ _ _ _ _ g r k _ _ e refl,
       open_same _ _ _ _ _ _ _ _ g r k _ _ e refl,
       open_more _ _ _ _ _ _ _ _ g r k _ _ e refl,

@@ -33,19 +33,22 @@ overflow_sub-hi c = (may_gather _ _ _ _ _ _ _ _ c.requires.good c.requires.reach
 pub overflow_add-from : goal.overflow_add-from
 overflow_add-from c = omega (arith, c.type_inv.calls (c.args.s.depth - 1))
 
-pub move_up-requires : goal.move_up-requires
-move_up-requires c =
+pub shift-requires : goal.shift-requires
+shift-requires c =
     let (_, _, a, b, d, e) = may_gather _ _ _ _ _ _ _ _ c.requires.good c.requires.reached.0 c.requires.reached.1 _ refl in
-    record { from_le_at = omega arith; n_in_bounds = omega arith }
+    record { n_in_bounds = omega arith; n_in_bounds_2 = omega arith }
 
 pub returns : goal.returns
 returns c =
-    let e = c.move_up.ensures in
+    let e = c.shift.ensures in
     let g = c.requires.good in
     let r = c.requires.reached.0 in
-    let s = c.requires.reached.1 in (
-      gathered_good _ _ _ _ _ _ _ _ g r s _ refl _ e,
-      gathered_same _ _ _ _ _ _ _ _ g r s _ refl _ e,
-      (may_gather _ _ _ _ _ _ _ _ g r s _ refl).0,
-      gathered _ _ _ _ _ _ _ _ g r s _ refl _ e,
-    )
+    let s = c.requires.reached.1 in
+    record {
+      led = (refl, refl, (may_gather _ _ _ _ _ _ _ _ g r s _ refl).0);
+      same = (
+        gathered_good _ _ _ _ _ _ _ _ g r s _ refl _ e,
+        gathered_same _ _ _ _ _ _ _ _ g r s _ refl _ e,
+        gathered _ _ _ _ _ _ _ _ g r s _ refl _ e,
+      );
+    }
