@@ -1,44 +1,34 @@
 // What is wrong at a place of a text, in a few words.
 ghost use Rattle.std.specs.Prelude.{◌≤◌, length};
 
-use std::io;
-use std::io::Write;
 use tokens::Token;
 
 // The rule that a malformed token breaks, by the class of its first byte.
-fn tell_rule<W: Write>(out: &mut W, class: u8) -> io::Result<()> {
+fn broken_rule(class: u8) -> &'static str {
     match class {
-        classes::SLASH => out.write_all(b"a comment begins with /* and must end with */\n"),
-        classes::CAPITAL => out.write_all(b"a name has at most 15 characters\n"),
-        classes::TYPE => out.write_all(
-            b"a variable has a dot and an index of at most 15 characters, or one digit or capital\n",
-        ),
-        classes::DIGIT => out.write_all(
-            b"a number is at most 4294967295, with no fraction and no exponent\n",
-        ),
-        classes::QUOTE => out.write_all(
-            b"a string must end on its line, after at most 255 characters\n",
-        ),
-        classes::CALL => out.write_all(b"the function's name must follow < at once\n"),
-        classes::STAR => out.write_all(b"a star begins a comment in the first column alone\n"),
-        _ => out.write_all(b"no token begins like this\n"),
+        classes::SLASH => "a comment begins with /* and must end with */",
+        classes::CAPITAL => "a name has at most 15 characters",
+        classes::TYPE =>
+            "a variable has a dot and an index of at most 15 characters, or one digit or capital",
+        classes::DIGIT => "a number is at most 4294967295, with no fraction and no exponent",
+        classes::QUOTE => "a string must end on its line, after at most 255 characters",
+        classes::CALL => "the function's name must follow < at once",
+        classes::STAR => "a star begins a comment in the first column alone",
+        _ => "no token begins like this",
     }
 }
 
 // A token is bad by itself, or where it stands.
-pub fn explain<W: Write>(out: &mut W, text: &[u8], place: usize) -> io::Result<()>
+pub fn wrong(text: &[u8], place: usize) -> &'static str
     requires text_len_bound { length text.now ≤ 65536 }
     requires place_in_bounds { place ≤ length text.now }
 {
-    if place == text.len() {
-        return out.write_all(b"the text ends early\n");
-    }
+    let Some(first) = text.get(place) else {
+        return "the text ends early";
+    };
     let classes = classes::classes();
-    let lexeme = tokens::lex(&classes, text, place);
-    let token = lexeme.token;
-    if let Token::Malformed = token {
-        tell_rule(out, classes::class_of(&classes, text[place]))
-    } else {
-        out.write_all(b"this token cannot stand here, or passes a limit\n")
+    match tokens::lex(&classes, text, place).token {
+        Token::Malformed => broken_rule(classes::class_of(&classes, *first)),
+        _ => "this token cannot stand here, or passes a limit",
     }
 }
