@@ -1,297 +1,204 @@
 // Runs the case files of data/, and prints what each case gives.
 #![tactic(auto)]
 
-ghost use Rattle.desk.specs.Calling.{Called};
-
-use casework::Word;
+use casework::{Case, Hashed};
 use checking_fields::FieldFault;
 use desk::Record;
+use hexing::Hex;
 use machine::Answer;
-use std::io::{BufReader, BufWriter, Read, Write};
-use std::rt::Files;
-use std::{fs, io};
+use std::alloc::Global;
+use std::io::{BufWriter, Read, Write};
+use std::{fmt, io};
 
-// What the cases of a file are about.
-#[derive(Clone, Copy)]
-enum Sort {
-    Checks,
-    Matching,
-    Machine,
-    Desk,
-}
-
-fn found<W: Write>(out: &mut W, check: Result<(), usize>) -> io::Result<()> {
-    match check {
-        Ok(()) => casework::text(out, b"good\n"),
-        Err(place) => casework::decimal(out, place as u64, b"\n"),
+// Good, or the place where it is bad.
+fn found<W: Write>(out: &mut W, checked: Result<(), usize>) -> io::Result<()> {
+    match checked {
+        Ok(()) => writeln!(out, "good"),
+        Err(place) => writeln!(out, "{place}"),
     }
 }
 
-fn found_in_field<W: Write>(out: &mut W, check: Result<(), FieldFault>) -> io::Result<()> {
-    match check {
-        Ok(()) => casework::text(out, b"good\n"),
-        Err(FieldFault::Bad(place)) => casework::decimal(out, place as u64, b"\n"),
-        Err(FieldFault::Short) => casework::text(out, b"short\n"),
+fn found_in_field<W: Write>(out: &mut W, field: &[u8], scratch: &mut [u8]) -> io::Result<()> {
+    match checking_fields::check_field(field, scratch) {
+        Ok(()) => found(out, Ok(())),
+        Err(FieldFault::Bad(place)) => found(out, Err(place)),
+        Err(FieldFault::Short) => writeln!(out, "short"),
     }
 }
 
-// P and a program, or F and a field; false where the file ends.
+// P and a program, or F and a field; none where the file ends.
 fn check<R: Read, W: Write>(
     file: &mut R,
     out: &mut W,
     bytes: &mut [u8],
     scratch: &mut [u8],
-) -> io::Result<bool> {
-    let mut tag = [0u8; 1];
-    casework::fill(file, &mut tag);
-    let n = casework::load(file, bytes);
-    match tag[0] {
-        b'P' => found(out, checking::check_program(&bytes[..n]))?,
-        b'F' => found_in_field(out, checking_fields::check_field(&bytes[..n], scratch))?,
-        _ => return Ok(false),
+) -> io::Result<Option<()>> {
+    let tag = casework::byte(file);
+    let bytes = casework::load(file, bytes);
+    match tag {
+        b'P' => found(out, checking::check_program(bytes))?,
+        b'F' => found_in_field(out, bytes, scratch)?,
+        _ => return Ok(None),
     }
-    Ok(true)
+    Ok(Some(()))
 }
 
-// A step of the program whose one sentence is `left = right`, on a call with that argument.
-fn step(left: &[u8], right: &[u8], arg: &[u8], field: &mut [u8], scratch: &mut [u8]) -> Answer {
-    let mut program = [0u8; 1024];
-    let mut n = casework::put(&mut program, 0, b"\x0D\x00\x00");
-    n = casework::put(&mut program, n, left);
-    n = casework::put(&mut program, n, b"\x0B");
-    n = casework::put(&mut program, n, right);
-    n = casework::put(&mut program, n, b"\x0C\x0E\x0F");
-    let mut used = casework::put(field, 0, b"\x06\x00\x00");
-    used = casework::put(field, used, arg);
-    used = casework::put(field, used, b"\x07");
-    machine::run(&program[..n], field, used, scratch, 1)
+// Some parts in a row, so many bytes of them at most.
+fn joined(alloc: Global, parts: &[&[u8]], most: usize) -> io::Result<Vec<u8>> {
+    let mut bytes = Vec::new(alloc);
+    for part in parts {
+        bytes.extend_from_slice(part)?;
+    }
+    bytes.truncate(most);
+    Ok(bytes)
+}
+
+// A step of the program whose one sentence is `left = right`, on a call with that argument: the code, and the field afterwards.
+fn step(alloc: Global, left: &[u8], right: &[u8], arg: &[u8]) -> io::Result<(u8, Vec<u8>)> {
+    let sentence = [b"\x0D\x00\x00", left, b"\x0B", right, b"\x0C\x0E\x0F"];
+    let program = joined(alloc, &sentence, 1024)?;
+    let mut field = joined(alloc, &[b"\x06\x00\x00", arg, b"\x07"], 4096)?;
+    let used = field.len();
+    field.resize(4096, 0)?;
+    let mut scratch = [0u8; 4096];
+    let a = machine::run(&program, &mut field, used, &mut scratch, 1);
+    field.truncate(a.used);
+    Ok((machine::number(a.code), field))
 }
 
 // The variable's value, if it stands on the left side: what it gives on the right.
-fn value<W: Write>(out: &mut W, left: &[u8], arg: &[u8], kind: u8, number: u8) -> io::Result<()> {
-    let mut field = [0u8; 4096];
-    let mut scratch = [0u8; 4096];
-    let right = [kind, number];
-    let a = step(left, &right, arg, &mut field, &mut scratch);
-    let code = a.code;
-    let used = a.used;
-    if machine::number(code) != 0 {
+fn value<W: Write>(
+    out: &mut W,
+    alloc: Global,
+    left: &[u8],
+    arg: &[u8],
+    kind: u8,
+    number: u8,
+) -> io::Result<()> {
+    let (code, field) = step(alloc, left, &[kind, number], arg)?;
+    if code != 0 {
         return Ok(());
     }
-    if 4096 < used {
-        return Ok(());
-    }
-    match kind {
-        kinds::S_VARIABLE => casework::text(out, b" s")?,
-        kinds::T_VARIABLE => casework::text(out, b" t")?,
-        _ => casework::text(out, b" e")?,
-    }
-    casework::decimal(out, u64::from(number), b"=")?;
-    casework::hex(out, &field[..used])
+    let letter = match kind {
+        kinds::S_VARIABLE => 's',
+        kinds::T_VARIABLE => 't',
+        _ => 'e',
+    };
+    write!(out, " {letter}{number}={}", Hex::joined(&field))
 }
 
-// The values of all variables, by kind and number.
-fn values<W: Write>(out: &mut W, left: &[u8], arg: &[u8]) -> io::Result<()> {
+// Whether a left side fits an argument, and the values of its variables, by kind and number.
+fn fits<W: Write>(out: &mut W, alloc: Global, left: &[u8], arg: &[u8]) -> io::Result<()> {
+    let (code, _) = step(alloc, left, b"", arg)?;
+    match code {
+        0 => write!(out, "yes")?,
+        2 => return writeln!(out, "no"),
+        _ => return writeln!(out, "no left side, or no argument"),
+    }
     for v in 0..kinds::SLOTS as u8 {
-        value(out, left, arg, kinds::S_VARIABLE + v / 16, v % 16)?;
+        value(out, alloc, left, arg, kinds::S_VARIABLE + v / 16, v % 16)?;
     }
-    Ok(())
+    writeln!(out, "")
 }
 
-// Whether a left side fits an argument, and the values of its variables.
-fn fits<W: Write>(out: &mut W, left: &[u8], arg: &[u8]) -> io::Result<()> {
-    let mut field = [0u8; 4096];
-    let mut scratch = [0u8; 4096];
-    let code = step(left, b"", arg, &mut field, &mut scratch).code;
-    match machine::number(code) {
-        0 => casework::text(out, b"yes")?,
-        2 => return casework::text(out, b"no\n"),
-        _ => return casework::text(out, b"no left side, or no argument\n"),
-    }
-    values(out, left, arg)?;
-    casework::text(out, b"\n")
-}
-
-// A left side and an argument; false where the file ends.
+// A left side and an argument; none where the file ends.
 fn matching<R: Read, W: Write>(
     file: &mut R,
     out: &mut W,
+    alloc: Global,
     left: &mut [u8],
     arg: &mut [u8],
-) -> io::Result<bool> {
-    let n = match casework::number(file) {
-        Word::Is(n) => n as usize,
-        Word::Over => return Ok(false),
+) -> io::Result<Option<()>> {
+    let Some(left) = casework::part(file, left) else {
+        return Ok(None);
     };
-    if left.len() < n {
-        return Ok(false);
-    }
-    casework::fill(file, &mut left[..n]);
-    let m = casework::load(file, arg);
-    fits(out, &left[..n], &arg[..m])?;
-    Ok(true)
+    fits(out, alloc, left, casework::load(file, arg))?;
+    Ok(Some(()))
 }
 
 // The answer, with hashes of the field buffer and the scratch afterwards.
-fn run<W: Write>(
-    out: &mut W,
-    program: &[u8],
-    field: &mut [u8],
-    used: usize,
-    scratch: &mut [u8],
-    budget: u32,
-) -> io::Result<()> {
-    let a = machine::run(program, field, used, scratch, budget);
-    let code = a.code;
-    casework::decimal(out, u64::from(machine::number(code)), b" ")?;
-    casework::decimal(out, u64::from(a.steps), b" ")?;
-    casework::decimal(out, a.used as u64, b" ")?;
-    casework::decimal(out, a.place as u64, b" ")?;
-    casework::hashed(out, field, b" ")?;
-    casework::hashed(out, scratch, b"\n")
+fn run<W: Write>(out: &mut W, case: &mut Case<'_>) -> io::Result<()> {
+    let field = &mut *case.field;
+    let scratch = &mut *case.scratch;
+    let a = machine::run(case.program, field, case.used, scratch, case.last);
+    let code = machine::number(a.code);
+    let (steps, used, place) = (a.steps, a.used, a.place);
+    writeln!(
+        out,
+        "{code} {steps} {used} {place} {} {}",
+        Hashed(field),
+        Hashed(scratch)
+    )
 }
 
 // A part in hex, of a long one its first 16 bytes; a dash where it is empty.
-fn part<W: Write>(out: &mut W, s: &[u8]) -> io::Result<()> {
-    if s.is_empty() {
-        return casework::text(out, b"-\n");
+#[derive(Clone, Copy)]
+struct Part<'a>(&'a [u8]);
+
+impl fmt::Display for Part<'_> {
+    fn fmt<W: fmt::Write>(&self, f: &mut fmt::Formatter<W>) -> fmt::Result {
+        if self.0.is_empty() {
+            return write!(f, "-");
+        }
+        match self.0.get(..16) {
+            Some(start) if start.len() < self.0.len() => write!(f, "{}+", Hex::joined(start)),
+            _ => write!(f, "{}", Hex::joined(self.0)),
+        }
     }
-    if s.len() <= 16 {
-        casework::hex(out, s)?;
-        return casework::text(out, b"\n");
-    }
-    casework::hex(out, &s[..16])?;
-    casework::text(out, b"+\n")
 }
 
 // The record, hashes of the buffers, and the pointer's part.
-fn noted<'a, W: Write>(
+fn noted<W: Write>(
     out: &mut W,
     now: Record,
-    program: &'a [u8],
-    field: &'a [u8],
+    program: &[u8],
+    field: &[u8],
     scratch: &[u8],
 ) -> io::Result<()> {
-    let code = now.code;
-    casework::decimal(out, now.used as u64, b" ")?;
-    casework::decimal(out, u64::from(machine::number(code)), b" ")?;
-    casework::decimal(out, now.place as u64, b" ")?;
-    casework::hashed(out, field, b" ")?;
-    casework::hashed(out, scratch, b" ")?;
+    let Record { used, code, place } = now;
     let answer = Answer {
         code,
         steps: 0,
-        used: now.used,
-        place: now.place,
+        used,
+        place,
     };
-    part(out, desk::pointer(answer, program, field))
-}
-
-// One call of the desk, the record being lent to it.
-fn lend(noted: Record, program: &[u8], field: &mut [u8], scratch: &mut [u8]) -> Record
-    ensures { Called program.now noted field.old scratch.old result field.new scratch.new }
-{
-    let mut lent = noted;
-    desk::desk(&mut lent, program, field, scratch);
-    lent
+    writeln!(
+        out,
+        "{used} {} {place} {} {} {}",
+        machine::number(code),
+        Hashed(field),
+        Hashed(scratch),
+        Part(desk::pointer(answer, program, field))
+    )
 }
 
 // So many calls of the desk, from a fresh record.
-fn calls<W: Write>(
-    out: &mut W,
-    program: &[u8],
-    field: &mut [u8],
-    used: usize,
-    scratch: &mut [u8],
-    n: u32,
-) -> io::Result<()> {
-    let mut now = desk::fresh(used);
-    for _ in 0..n {
-        now = lend(now, program, field, scratch);
-        noted(out, now, program, field, scratch)?;
+fn calls<W: Write>(out: &mut W, case: &mut Case<'_>) -> io::Result<()> {
+    let field = &mut *case.field;
+    let scratch = &mut *case.scratch;
+    let mut now = desk::fresh(case.used);
+    for _ in 0..case.last {
+        desk::desk(&mut now, case.program, field, scratch);
+        noted(out, now, case.program, field, scratch)?;
     }
     Ok(())
 }
 
-// One run, or calls of the desk.
-fn start<W: Write>(
-    out: &mut W,
-    program: &[u8],
-    field: &mut [u8],
-    used: usize,
-    scratch: &mut [u8],
-    n: u32,
-    stepwise: bool,
-) -> io::Result<()> {
-    if stepwise {
-        calls(out, program, field, used, scratch, n)
-    } else {
-        run(out, program, field, used, scratch, n)
-    }
-}
-
-// A program, a field and a scratch; false where there is no more.
-fn started<R: Read, W: Write>(
+// Reads a program, a field and a scratch, and runs them; none where there is no more.
+fn start<R: Read, F: FnOnce(&mut Case<'_>) -> io::Result<()>>(
     file: &mut R,
-    out: &mut W,
     program: &mut [u8],
     field: &mut [u8],
     scratch: &mut [u8],
-    stepwise: bool,
-) -> io::Result<bool> {
-    let c = casework::next_case(file, program, field, scratch);
-    if !c.more {
-        return Ok(false);
-    }
-    start(
-        out,
-        &program[..c.program],
-        &mut field[..c.field],
-        c.used,
-        &mut scratch[..c.scratch],
-        c.last,
-        stepwise,
-    )?;
-    Ok(true)
-}
-
-// One case; false where there is no more.
-fn case<R: Read, W: Write>(
-    sort: Sort,
-    file: &mut R,
-    out: &mut W,
-    program: &mut [u8],
-    field: &mut [u8],
-    scratch: &mut [u8],
-) -> io::Result<bool> {
-    match sort {
-        Sort::Checks => check(file, out, program, scratch),
-        Sort::Matching => matching(file, out, program, field),
-        Sort::Machine => started(file, out, program, field, scratch, false),
-        Sort::Desk => started(file, out, program, field, scratch, true),
-    }
-}
-
-// All cases of a file; where there is none, none.
-fn cases<R: Files + Alloc, W: Write>(
-    rt: &R,
-    out: &mut W,
-    sort: Sort,
-    path: &str,
-    program: &mut [u8],
-    field: &mut [u8],
-    scratch: &mut [u8],
-) -> io::Result<()> {
-    let Ok(file) = fs::open(rt, path) else {
-        return Ok(());
+    run: F,
+) -> io::Result<Option<()>>
+    requires { F.IsAlwaysCallable run }
+{
+    let Some(mut case) = casework::next_case(file, program, field, scratch) else {
+        return Ok(None);
     };
-    let mut file = BufReader::new(rt.alloc(), file)?;
-    for _ in 0..100000 {
-        if !case(sort, &mut file, out, program, field, scratch)? {
-            break;
-        }
-    }
-    Ok(())
+    run(&mut case)?;
+    Ok(Some(()))
 }
 
 fn main(rt: HostRuntime) -> io::Result<()> {
@@ -299,22 +206,21 @@ fn main(rt: HostRuntime) -> io::Result<()> {
     let mut program = [0u8; 65600];
     let mut field = [0u8; 65600];
     let mut scratch = [0u8; 65600];
-    let sorts = [
-        (Sort::Checks, "checks"),
-        (Sort::Matching, "matching"),
-        (Sort::Machine, "machine"),
-        (Sort::Desk, "desk"),
-    ];
-    for (sort, path) in sorts {
-        cases(
-            &rt,
-            &mut out,
-            sort,
-            path,
-            &mut program,
-            &mut field,
-            &mut scratch,
-        )?;
-    }
+    casework::each_case(&rt, "checks", |file| {
+        check(file, &mut out, &mut program, &mut scratch)
+    })?;
+    casework::each_case(&rt, "matching", |file| {
+        matching(file, &mut out, rt.alloc(), &mut program, &mut field)
+    })?;
+    casework::each_case(&rt, "machine", |file| {
+        start(file, &mut program, &mut field, &mut scratch, |case| {
+            run(&mut out, case)
+        })
+    })?;
+    casework::each_case(&rt, "desk", |file| {
+        start(file, &mut program, &mut field, &mut scratch, |case| {
+            calls(&mut out, case)
+        })
+    })?;
     out.flush()
 }

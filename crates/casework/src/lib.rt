@@ -1,160 +1,104 @@
-// What the case programs read and print: numbers and bytes off a case file, and what a case gives.
+// What the case programs share: the cases of a file, the parts of a case, and the hash of what a case leaves behind.
 #![tactic(auto)]
 
-ghost use Rattle.std.specs.Prelude.{◌≡◌, ◌≤◌, ◌<◌, ◌+◌, ◌-◌, ◌++◌, length, take, drop, min, slice_index, EachIndex, OnOk};
-ghost use Rattle.std.specs.Fmt.{decimal as digits_of};
-ghost use Rattle.std.specs.Io.KnownBytes.{Appends};
-ghost use Rattle.hexing.specs.Digits.{pair_of};
+ghost use Rattle.std.specs.Prelude.{◌≡◌, ◌≤◌, length, Some, IfSome};
 ghost use Rattle.casework.specs.Hash.{hash_of};
-ghost use Rattle.casework.specs.Printed.{hex_of, word_of};
+ghost use Rattle.casework.specs.Printed.{word_of};
 ghost use Rattle.casework.specs.Words.{IsNext};
 
-use std::io;
-use std::io::{Read, Write};
+use hexing::Hex;
+use std::fs::File;
+use std::io::{BufReader, Read};
+use std::rt::Files;
+use std::{fmt, fs, io};
 
-#[derive(Drop)]
-pub enum Word {
-    Is(u32),
-    Over,
+// Every case of a file, up to 100000 of them; where there is no such file, none. `case` gives none where there is no more.
+pub fn each_case<
+    R: Files<File = File> + AllocGlobal,
+    F: FnMut(&mut BufReader<File>) -> io::Result<Option<()>>,
+>(rt: &R, path: &str, mut case: F) -> io::Result<()>
+    requires { F.IsAlwaysCallable case }
+{
+    let Ok(file) = fs::open(rt, path) else {
+        return Ok(());
+    };
+    let mut file = BufReader::new(rt.alloc(), file)?;
+    for _ in 0..100000 {
+        if case(&mut file)?.is_none() {
+            break;
+        }
+    }
+    Ok(())
 }
 
-// A number of four bytes, the low byte first; Over where the file ends.
-pub fn number<R: Read>(file: &mut R) -> Word
+// A number of four bytes, the low byte first; none where the file ends.
+pub fn number<R: Read>(file: &mut R) -> Option<u32>
     ensures { IsNext (R.remaining file.old) (R.remaining file.new) result }
 {
     let mut b = [0u8; 4];
-    match file.read_exact(&mut b) {
-        Ok(()) => Word::Is(u32::from_le_bytes(b)),
-        Err(_) => Word::Over,
-    }
+    file.read_exact(&mut b).ok()?;
+    Some(u32::from_le_bytes(b))
 }
 
-// A number, or 0 where the file ends.
-pub fn number_or_zero<R: Read>(file: &mut R) -> u32 {
-    match number(file) {
-        Word::Is(n) => n,
-        Word::Over => 0,
-    }
+// A byte, or 0 where the file ends.
+pub fn byte<R: Read>(file: &mut R) -> u8 {
+    let mut b = [0u8; 1];
+    let _ = file.read_exact(&mut b);
+    b[0]
 }
 
-// A length that fits a buffer, and that many bytes of it; 0 where it does not fit.
-pub fn load<R: Read>(file: &mut R, buf: &mut [u8]) -> usize
-    ensures { result ≤ length buf.new }
+// A length, and the start of a buffer with that many bytes, as far as the file has them; none where it does not fit.
+pub fn part<'a, R: Read>(file: &mut R, buf: &'a mut [u8]) -> Option<&'a mut [u8]>
+    ensures { IfSome result (λ part. length part.now ≤ length buf.old) }
 {
-    let n = number_or_zero(file) as usize;
-    if buf.len() < n {
-        return 0;
-    }
-    fill(file, &mut buf[..n]);
-    n
+    let n = number(file)? as usize;
+    let part = buf.get_mut(..n)?;
+    let _ = file.read_exact(part);
+    Some(part)
 }
 
-// So many bytes as a buffer holds; where the file ends before, what it has.
-pub fn fill<R: Read>(file: &mut R, buf: &mut [u8]) {
-    let _ = file.read_exact(buf);
-}
-
-// Sets every byte of a buffer.
-pub fn set_all(s: &mut [u8], byte: u8)
-    ensures { EachIndex s.new (λ k. slice_index s.new k ≡ byte) }
+// The same, but empty where there is none.
+pub fn load<'a, R: Read>(file: &mut R, buf: &'a mut [u8]) -> &'a mut [u8]
+    ensures { length result.now ≤ length buf.old }
 {
-    s.fill(byte);
+    part(file, buf).unwrap_or(&mut [])
 }
 
-// A case of a run: whether there is one, how much of each buffer it has, the used length, and the number at its end.
+// A case of a run: the buffers, how much of the field is used, and the number at its end.
 #[derive(Drop)]
-pub struct Case {
-    pub more: bool,
-    pub program: usize,
-    pub field: usize,
+pub struct Case<'a> {
+    pub program: &'a [u8],
+    pub field: &'a mut [u8],
     pub used: usize,
-    pub scratch: usize,
+    pub scratch: &'a mut [u8],
     pub last: u32,
 }
 
-// Reads the next case into three buffers; there is no more where the file ends, or where the program or the scratch does not fit.
-pub fn next_case<R: Read>(
+// Reads the next case into three buffers; there is none where the file ends, or where the program or the scratch does not fit.
+pub fn next_case<'a, R: Read>(
     file: &mut R,
-    program: &mut [u8],
-    field: &mut [u8],
-    scratch: &mut [u8],
-) -> Case
-    ensures program_in_bounds { result.program ≤ length program.new }
-    ensures field_in_bounds { result.field ≤ length field.new }
-    ensures scratch_in_bounds { result.scratch ≤ length scratch.new }
+    program: &'a mut [u8],
+    field: &'a mut [u8],
+    scratch: &'a mut [u8],
+) -> Option<Case<'a>>
+    ensures program_in_bounds { IfSome result (λ c. length c.program.now ≤ length program.old) }
+    ensures field_in_bounds { IfSome result (λ c. length c.field.now ≤ length field.old) }
+    ensures scratch_in_bounds { IfSome result (λ c. length c.scratch.now ≤ length scratch.old) }
 {
-    let mut c = Case {
-        more: false,
-        program: 0,
-        field: 0,
-        used: 0,
-        scratch: 0,
-        last: 0,
-    };
-    let n = match number(file) {
-        Word::Is(n) => n as usize,
-        Word::Over => return c,
-    };
-    if program.len() < n {
-        return c;
-    }
-    fill(file, &mut program[..n]);
-    c.program = n;
-    c.field = load(file, field);
-    c.used = number_or_zero(file) as usize;
-    let m = number_or_zero(file) as usize;
-    if scratch.len() < m {
-        return c;
-    }
-    let mut byte = [0u8; 1];
-    fill(file, &mut byte);
-    set_all(&mut scratch[..m], byte[0]);
-    c.scratch = m;
-    c.last = number_or_zero(file);
-    c.more = true;
-    c
-}
-
-// Puts some bytes into a buffer from a place on, as far as they fit; the place behind them.
-pub fn put(out: &mut [u8], at: usize, s: &[u8]) -> usize
-    requires { at ≤ length out.old }
-    ensures in_bounds { result ≤ length out.new }
-    ensures end { result ≡ at + min (length s.now) (length out.old - at) }
-    ensures bytes { out.new ≡ take at out.old ++ take (result - at) s.now ++ drop result out.old }
-{
-    let n = s.len().min(out.len() - at);
-    out[at..at + n].copy_from_slice(&s[..n]);
-    at + n
-}
-
-pub fn text<W: Write>(out: &mut W, s: &[u8]) -> io::Result<()>
-    ensures { OnOk result (Appends (W.contents out.old) (W.contents out.new) s.now) }
-{
-    out.write_all(s)
-}
-
-// A number, and what stands behind it.
-pub fn decimal<W: Write>(out: &mut W, n: u64, after: &[u8]) -> io::Result<()>
-    ensures { OnOk result (Appends (W.contents out.old) (W.contents out.new) (digits_of n ++ after.now)) }
-{
-    write!(out, "{n}")?;
-    out.write_all(after)
-}
-
-// One byte, as two digits of upper-case hex.
-pub fn hex_byte<W: Write>(out: &mut W, b: u8) -> io::Result<()>
-    ensures { OnOk result (Appends (W.contents out.old) (W.contents out.new) (pair_of b)) }
-{
-    out.write_all(&hexing::pair(b))
-}
-
-pub fn hex<W: Write>(out: &mut W, s: &[u8]) -> io::Result<()>
-    ensures { OnOk result (Appends (W.contents out.old) (W.contents out.new) (hex_of s.now)) }
-{
-    for b in s {
-        hex_byte(out, *b)?;
-    }
-    Ok(())
+    let program = part(file, program)?;
+    let field = load(file, field);
+    let used = number(file).unwrap_or(0) as usize;
+    let n = number(file).unwrap_or(0) as usize;
+    let scratch = scratch.get_mut(..n)?;
+    scratch.fill(byte(file));
+    let last = number(file).unwrap_or(0);
+    Some(Case {
+        program,
+        field,
+        used,
+        scratch,
+        last,
+    })
 }
 
 // The hash FNV-1a of some bytes.
@@ -168,16 +112,14 @@ pub fn hash(s: &[u8]) -> u32
     h
 }
 
-pub fn hex_word<W: Write>(out: &mut W, n: u32) -> io::Result<()>
-    ensures { OnOk result (Appends (W.contents out.old) (W.contents out.new) (word_of n)) }
-{
-    hex(out, &n.to_be_bytes())
-}
+// Some bytes, printed as their hash.
+#[derive(Clone, Copy)]
+pub struct Hashed<'a>(pub &'a [u8]);
 
-// The hash of some bytes, and what stands behind it.
-pub fn hashed<W: Write>(out: &mut W, s: &[u8], after: &[u8]) -> io::Result<()>
-    ensures { OnOk result (Appends (W.contents out.old) (W.contents out.new) (word_of (hash_of s.now) ++ after.now)) }
-{
-    hex_word(out, hash(s))?;
-    text(out, after)
+impl fmt::Display for Hashed<'_> {
+    ghost output = { λ h. Some (word_of (hash_of h.0.now)) };
+
+    fn fmt<W: fmt::Write>(&self, f: &mut fmt::Formatter<W>) -> fmt::Result {
+        write!(f, "{}", Hex::joined(&hash(self.0).to_be_bytes()))
+    }
 }

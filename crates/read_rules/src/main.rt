@@ -7,81 +7,20 @@ mod pointing;
 mod storing;
 mod wording;
 
-ghost use Rattle.std.specs.Prelude.{◌≡◌, ◌≤◌, length, IfOk};
+ghost use Rattle.std.specs.Prelude.{◌≡◌, ◌≤◌, length};
 ghost use Rattle.reading.specs.Answers.{code_of};
 
-use failing::Failure;
+use failing::{Failure, failed};
 use reading::{Answer, Code};
-use std::io::{Read, Write};
+use std::io::{BufWriter, Read, Write};
 use std::rt::Files;
 use std::{fs, io};
 
-// Reads until a buffer is full, or the file ends; how many bytes of the buffer are read.
-fn read_full<R: Read>(file: &mut R, buf: &mut [u8]) -> io::Result<usize>
-    ensures { IfOk result (λ n. n ≤ length buf.new) }
-{
-    let mut done = 0;
-    while done < buf.len() {
-        let n = file.read(&mut buf[done..])?;
-        if n == 0 {
-            break;
-        }
-        done += n;
-    }
-    Ok(done)
-}
-
-// Reads a file to its end, or until the buffer is full.
-fn load(files: &impl Files, path: &str, buf: &mut [u8]) -> io::Result<usize>
-    ensures { IfOk result (λ n. n ≤ length buf.new) }
-{
-    let mut file = fs::open(files, path)?;
-    read_full(&mut file, buf)
-}
-
-// A number, and what stands behind it.
-pub fn number<W: Write>(out: &mut W, n: usize, after: &[u8]) -> io::Result<()> {
-    write!(out, "{n}")?;
-    out.write_all(after)
-}
-
-fn numbers<W: Write>(
-    out: &mut W,
-    code: Code,
-    program: usize,
-    names: usize,
-    place: usize,
-) -> io::Result<()> {
-    number(out, usize::from(reading::number(code)), b" ")?;
-    number(out, program, b" ")?;
-    number(out, names, b" ")?;
-    number(out, place, b"\n")
-}
-
-// The numbers after files that are there, so that nobody takes old files for new ones.
-fn store<R: Files + AllocGlobal + Eprint, W: Write>(
-    rt: &R,
-    out: &mut W,
-    program: &[u8],
-    list: &[u8],
-) -> io::Result<()> {
-    match storing::store(rt, program, list) {
-        Ok(()) => numbers(out, Code::Read, program.len(), list.len(), 0),
-        Err(failure) => failing::tell(rt, failure),
-    }
-}
-
-fn refuse<W: Write>(out: &mut W, code: Code, words: &[u8]) -> io::Result<()> {
-    numbers(out, code, 0, 0, 0)?;
-    out.write_all(words)
-}
-
-fn point_out<W: Write>(out: &mut W, text: &[u8], place: usize) -> io::Result<()>
-    requires text_len_bound { length text.now ≤ 65536 }
-    requires place_in_bounds { place ≤ length text.now }
-{
-    numbers(out, Code::BadText, 0, 0, place)?;
-    pointing::point_out(out, b"rules.ref", text, place)
+// What a file holds; of a longer one, a byte more than a text may have, so that reading itself refuses it.
+fn load<R: Files + AllocGlobal>(rt: &R, path: &str) -> io::Result<Vec<u8>> {
+    let mut bytes = Vec::new(rt.alloc());
+    fs::open(rt, path)?.take(65537).read_to_end(&mut bytes)?;
+    Ok(bytes)
 }
 
 // Reading, with what its answer means for a caller: program and list lie within their buffers, and a bad place in a text that is not too long.
@@ -92,46 +31,34 @@ fn read_into(text: &[u8], program: &mut [u8], list: &mut [u8]) -> Answer
     reading::read(text, program, list)
 }
 
-fn read<R: Files + AllocGlobal + Eprint, W: Write>(
-    rt: &R,
-    out: &mut W,
-    text: &[u8],
-    program: &mut [u8],
-    list: &mut [u8],
-) -> io::Result<()> {
-    let a = read_into(text, program, list);
-    let code = a.code;
-    match code {
-        Code::Read => store(rt, out, &program[..a.program], &list[..a.names]),
-        Code::NoRoom => refuse(
-            out,
-            code,
-            b"the program or the name list would be longer than 65,536 bytes\n",
-        ),
-        Code::BadSizes => refuse(out, code, b"rules.ref is longer than 65,536 bytes\n"),
-        Code::BadText => point_out(out, text, a.place),
-    }
-}
-
-// A byte more than a text may have, so that reading itself refuses a longer one.
-fn main(rt: HostRuntime) -> io::Result<()> {
-    let mut text = [0u8; 65537];
+// The numbers after files that are there, so that nobody takes old files for new ones.
+fn read<R: Files + AllocGlobal, W: Write>(rt: &R, out: &mut W) -> Result<(), Failure> {
     let mut program = [0u8; 65536];
     let mut list = [0u8; 65536];
-    match load(&rt, "rules.ref", &mut text) {
-        Ok(n) => read(
-            &rt,
-            &mut io::writer(&rt),
-            &text[..n],
-            &mut program,
-            &mut list,
-        ),
-        Err(error) => failing::tell(
-            &rt,
-            Failure {
-                what: "rules.ref",
-                error,
-            },
-        ),
+    let text = load(rt, "rules.ref").map_err(|e| failed("rules.ref", e))?;
+    let a = read_into(&text, &mut program, &mut list);
+    if let Code::Read = a.code {
+        storing::store(rt, &program[..a.program], &list[..a.names])?;
+    }
+    let code = reading::number(a.code);
+    writeln!(out, "{code} {} {} {}", a.program, a.names, a.place)?;
+    match a.code {
+        Code::Read => {}
+        Code::NoRoom => writeln!(
+            out,
+            "the program or the name list would be longer than 65,536 bytes"
+        )?,
+        Code::BadSizes => writeln!(out, "rules.ref is longer than 65,536 bytes")?,
+        Code::BadText => pointing::point_out(out, "rules.ref", &text, a.place)?,
+    }
+    Ok(())
+}
+
+fn main(rt: HostRuntime) -> io::Result<()> {
+    let mut out = BufWriter::new(rt.alloc(), io::writer(&rt))?;
+    match read(&rt, &mut out) {
+        Ok(()) => out.flush(),
+        Err(Failure::File { what, error }) => failing::tell(&rt, what, error),
+        Err(Failure::Output(error)) => Err(error),
     }
 }

@@ -1,5 +1,5 @@
 // Two files replaced, each in whole.
-use crate::failing::Failure;
+use crate::failing::{Failure, failed};
 use std::fs::{File, OpenFile, OpenOptions};
 use std::io::{ErrorKind, Write};
 use std::rt::Files;
@@ -32,13 +32,8 @@ fn remove(files: &impl Files, name: &str) {
 // Writes the file that is to take the target's place, and gives its name; where that fails, nothing is left of it.
 fn write_beside<R: Files + AllocGlobal>(rt: &R, target: &str, bytes: &[u8]) -> io::Result<String> {
     let (name, mut file) = create_beside(rt, target)?;
-    match fill(&mut file, bytes) {
-        Ok(()) => Ok(name),
-        Err(e) => {
-            remove(rt, name.as_str());
-            Err(e)
-        }
-    }
+    fill(&mut file, bytes).inspect_err(|_| remove(rt, name.as_str()))?;
+    Ok(name)
 }
 
 // Refuses a name that a folder has; a rename over it would fail, and then it may be late to leave all as it is.
@@ -49,46 +44,27 @@ fn refuse_folder(files: &impl Files, name: &str) -> io::Result<()> {
     }
 }
 
-fn failure(what: &'static str, error: io::Error) -> Failure {
-    Failure { what, error }
-}
-
 // Renames both new files. Two renames are not one: where the second fails, it is said that the first is done.
 fn replace(files: &impl Files, rules: &str, names: &str) -> Result<(), Failure> {
-    if let Err(e) = fs::rename(files, rules, "rules.bin") {
+    fs::rename(files, rules, "rules.bin").map_err(|e| {
         remove(files, rules);
         remove(files, names);
-        return Err(failure("rules.bin", e));
-    }
-    if let Err(e) = fs::rename(files, names, "names.bin") {
+        failed("rules.bin", e)
+    })?;
+    fs::rename(files, names, "names.bin").map_err(|e| {
         remove(files, names);
-        return Err(failure("rules.bin is new, but names.bin", e));
-    }
-    Ok(())
+        failed("rules.bin is new, but names.bin", e)
+    })
 }
 
-// Writes both new files before either takes an old one's place.
-fn write<R: Files + AllocGlobal>(rt: &R, program: &[u8], list: &[u8]) -> Result<(), Failure> {
-    let rules = match write_beside(rt, "rules.bin", program) {
-        Ok(rules) => rules,
-        Err(e) => return Err(failure("rules.bin", e)),
-    };
-    match write_beside(rt, "names.bin", list) {
-        Ok(names) => replace(rt, rules.as_str(), names.as_str()),
-        Err(e) => {
-            remove(rt, rules.as_str());
-            Err(failure("names.bin", e))
-        }
-    }
-}
-
-// Stores a program and its name list; an error says which of them is not stored.
+// Stores a program and its name list, both new files written before either takes an old one's place.
 pub fn store<R: Files + AllocGlobal>(rt: &R, program: &[u8], list: &[u8]) -> Result<(), Failure> {
-    if let Err(e) = refuse_folder(rt, "rules.bin") {
-        return Err(failure("rules.bin", e));
-    }
-    if let Err(e) = refuse_folder(rt, "names.bin") {
-        return Err(failure("names.bin", e));
-    }
-    write(rt, program, list)
+    refuse_folder(rt, "rules.bin").map_err(|e| failed("rules.bin", e))?;
+    refuse_folder(rt, "names.bin").map_err(|e| failed("names.bin", e))?;
+    let rules = write_beside(rt, "rules.bin", program).map_err(|e| failed("rules.bin", e))?;
+    let names = write_beside(rt, "names.bin", list).map_err(|e| {
+        remove(rt, rules.as_str());
+        failed("names.bin", e)
+    })?;
+    replace(rt, rules.as_str(), names.as_str())
 }

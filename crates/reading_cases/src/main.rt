@@ -1,63 +1,59 @@
 // Reads the texts of data/, and prints what each of them gives.
 #![tactic(auto)]
 
-use casework::Word;
-use std::io::{BufReader, BufWriter, Read, Write};
-use std::{fs, io};
+use casework::Hashed;
+use std::io;
+use std::io::{BufWriter, Read, Write};
+
+// A text, and two buffers for its program and its list.
+#[derive(Drop)]
+struct Case<'a> {
+    text: &'a [u8],
+    program: &'a mut [u8],
+    list: &'a mut [u8],
+}
+
+// A text, and both buffers by their lengths, filled so that a byte which reading leaves as it is shows; none where the file ends, or where
+// one does not fit.
+fn next_case<'a, R: Read>(
+    file: &mut R,
+    text: &'a mut [u8],
+    program: &'a mut [u8],
+    list: &'a mut [u8],
+) -> Option<Case<'a>> {
+    let text = casework::part(file, text)?;
+    let n = casework::number(file).unwrap_or(0) as usize;
+    let program = program.get_mut(..n)?;
+    let n = casework::number(file).unwrap_or(0) as usize;
+    let list = list.get_mut(..n)?;
+    let byte = casework::byte(file);
+    program.fill(byte);
+    list.fill(byte);
+    Some(Case {
+        text,
+        program,
+        list,
+    })
+}
 
 // The answer, with hashes of the program buffer and the list buffer afterwards.
-fn read<W: Write>(out: &mut W, text: &[u8], program: &mut [u8], list: &mut [u8]) -> io::Result<()> {
+fn read<W: Write>(out: &mut W, case: Case<'_>) -> io::Result<()> {
+    let Case {
+        text,
+        program,
+        list,
+    } = case;
     let a = reading::read(text, program, list);
-    let code = a.code;
-    casework::decimal(out, u64::from(reading::number(code)), b" ")?;
-    casework::decimal(out, a.program as u64, b" ")?;
-    casework::decimal(out, a.names as u64, b" ")?;
-    casework::decimal(out, a.place as u64, b" ")?;
-    casework::hashed(out, program, b" ")?;
-    casework::hashed(out, list, b"\n")
-}
-
-// With both buffers filled before, so that a byte which reading leaves as it is shows.
-fn read_over<W: Write>(
-    out: &mut W,
-    text: &[u8],
-    program: &mut [u8],
-    list: &mut [u8],
-    byte: u8,
-) -> io::Result<()> {
-    casework::set_all(program, byte);
-    casework::set_all(list, byte);
-    read(out, text, program, list)
-}
-
-// A text, the lengths of the buffers, and the byte that fills them; false where the file ends, or where one does not fit.
-fn case<R: Read, W: Write>(
-    file: &mut R,
-    out: &mut W,
-    text: &mut [u8],
-    program: &mut [u8],
-    list: &mut [u8],
-) -> io::Result<bool> {
-    let n = match casework::number(file) {
-        Word::Is(n) => n as usize,
-        Word::Over => return Ok(false),
-    };
-    if text.len() < n {
-        return Ok(false);
-    }
-    casework::fill(file, &mut text[..n]);
-    let p = casework::number_or_zero(file) as usize;
-    if program.len() < p {
-        return Ok(false);
-    }
-    let m = casework::number_or_zero(file) as usize;
-    if list.len() < m {
-        return Ok(false);
-    }
-    let mut byte = [0u8; 1];
-    casework::fill(file, &mut byte);
-    read_over(out, &text[..n], &mut program[..p], &mut list[..m], byte[0])?;
-    Ok(true)
+    let code = reading::number(a.code);
+    writeln!(
+        out,
+        "{code} {} {} {} {} {}",
+        a.program,
+        a.names,
+        a.place,
+        Hashed(program),
+        Hashed(list)
+    )
 }
 
 fn main(rt: HostRuntime) -> io::Result<()> {
@@ -65,14 +61,12 @@ fn main(rt: HostRuntime) -> io::Result<()> {
     let mut text = [0u8; 65600];
     let mut program = [0u8; 65600];
     let mut list = [0u8; 65600];
-    let Ok(file) = fs::open(&rt, "texts") else {
-        return Ok(());
-    };
-    let mut file = BufReader::new(rt.alloc(), file)?;
-    for _ in 0..100000 {
-        if !case(&mut file, &mut out, &mut text, &mut program, &mut list)? {
-            break;
-        }
-    }
+    casework::each_case(&rt, "texts", |file| {
+        let Some(case) = next_case(file, &mut text, &mut program, &mut list) else {
+            return Ok(None);
+        };
+        read(&mut out, case)?;
+        Ok(Some(()))
+    })?;
     out.flush()
 }
