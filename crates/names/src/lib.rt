@@ -23,6 +23,7 @@ pub struct Entry {
 }
 
 // The names of a text so far, and for each bucket of their spellings one more than the number of the latest name, or 0.
+#[derive(Drop)]
 pub struct Names<'a> {
     pub text: &'a [u8],
     pub entries: [Entry; 32768],

@@ -19,8 +19,7 @@ use Rattle.putting.specs.Putting.{Filled}
 use Rattle.reading.specs.declared.Code.{Code}
 use Rattle.reading.specs.declared.Answer.{Answer}
 use Rattle.reading.specs.Answers.{code_of, reply_of}
-use Rattle.reading.specs.declared.Said.{Said}
-use Rattle.reading.specs.declared.Said.TheVariants.{Says, Amiss}
+use Rattle.std.specs.Prelude.{Ok, Err}
 use Rattle.reading.specs.Reading.{Saying, good, bad}
 
 module _ {s firsts : List ℕ} {n : ℕ} (p : Places s firsts n) (es : List Element) {buf : List ℕ} {len : ℕ} (f : Filled buf (join es) len) (program list : List ℕ) (b : length buf ≡ 65536) (w : length program ≤ 65536) where
@@ -72,26 +71,14 @@ pub refused_is : {r : Answer} {c : Code} {p : ℕ} → (r.code ≡ c) × (r.prog
 refused_is (a, b, d, e) = rw (a, b, d, e)
 
 -- what the text says, as the code has it
-module _ {s firsts buf : List ℕ} {o : Said} (h : Saying s firsts buf o) where
-  pub given_places : {n len : ℕ} → o ≡ Says n len → Places s firsts n
-  given_places {n} {len} e = go (rw e at h)
-    where
-      go : Saying s firsts buf (Says n len) → Places s firsts n
-      go (good es f w p) = p
-
-  pub bad_said : {i : ℕ} {program list : List ℕ} → o ≡ Amiss i → outcome (reply 8 0 0 i) program list ≡ fitted (said s) program list
+module _ {s firsts buf : List ℕ} {n : ℕ} where
+  pub bad_said : {i : ℕ} {program list : List ℕ} → Saying s firsts n buf (Err i) → outcome (reply 8 0 0 i) program list ≡ fitted (said s) program list
   unfolding fitted
-  bad_said {i} {program} {list} e = go (rw e at h)
-    where
-      go : Saying s firsts buf (Amiss i) → outcome (reply 8 0 0 i) program list ≡ fitted (said s) program list
-      go (bad f) = rw f
+  bad_said (bad f) = rw f
 
-pub given-said : (program list : List ℕ) {s firsts buf : List ℕ} {o : Said} → Saying s firsts buf o → {n len : ℕ} {a : Outcome} → o ≡ Says n len
-    → ((es : List Element) → Filled buf (join es) len → a ≡ fitted (says es (named s firsts n)) program list) → a ≡ fitted (said s) program list
-given-said program list {s} {firsts} {buf} h {n} {len} {a} e g = go (rw e at h)
-  where
-    go : Saying s firsts buf (Says n len) → a ≡ fitted (said s) program list
-    go (good es f w p) = g es w ∙ ap (λ x. fitted x program list) (sym f)
+  pub given-said : (program list : List ℕ) {len : ℕ} {a : Outcome} → Saying s firsts n buf (Ok len)
+      → ((es : List Element) → Filled buf (join es) len → a ≡ fitted (says es (named s firsts n)) program list) → a ≡ fitted (said s) program list
+  given-said program list (good es f w) g = g es w ∙ ap (λ x. fitted x program list) (sym f)
 
 -- the sizes come first
 module _ (text program list : List ℕ) where

@@ -20,20 +20,21 @@ use Rattle.text.specs.Numbering.{Key, name_key, number_of, adding}
 use Rattle.text.specs.Reading.{type_of, number_in, names_with, variables_with}
 use Rattle.classes.proofs.Runs.{run_ends}
 use Rattle.names.specs.Names.{key_at}
-use Rattle.names.specs.Index.{Index, count_after, Numbered}
-use Rattle.variables.specs.Variables.{keys_of, Inside, Numbered as VariableNumbered}
-use Rattle.variables.specs.declared.Variable.{Variable}
-use Rattle.variables.specs.Few.{Few}
+use Rattle.names.specs.Index.{count_after, Numbered}
+use Rattle.names.specs.Tables.{Numbered as NameMet}
+use Rattle.names.specs.declared.Names.{Names}
+use Rattle.variables.specs.Entries.{kinds, starts, sizes}
+use Rattle.variables.specs.Tables.{keys, Numbered as VariableMet}
+use Rattle.variables.specs.declared.Variables.{Variables}
+use denote.Bor.{Bor}
 use Rattle.classes.specs.Table.{part}
 use Rattle.variables.proofs.Few.{few_length, keys_length}
 use Rattle.tokens.specs.declared.Token.{Token}
 use Rattle.tokens.specs.declared.Token.TheVariants as T
 use Rattle.tokens.specs.contracts.Token.{the_type}
 use Rattle.tokens.specs.Lexemes.{token_of, Proper}
-use Rattle.putting.specs.declared.Reader.{Reader}
 use Rattle.putting.specs.Putting.{Fits}
-use Rattle.reading.specs.declared.Met.{Met}
-use Rattle.reading.specs.Reading.{with_counts, NameMet, VariableMet, Tables, Spaced, names_in, Meeting}
+use Rattle.reading.specs.Reading.{Spaced, names_in, Meeting, Met, Sentence}
 
 key_is : (s : List ℕ) (i : ℕ) → key_at s i ≡ spelled (drop i s)
 unfolding key_at
@@ -44,45 +45,32 @@ count_most n r = elim (see (eqb r n)) [ is_true h ↦ rw h (omega arith) | is_fa
 
 -- NAMES
 
-pub name_numbered : {s : List ℕ} {j : ℕ} {q r : Reader} {firsts heads links firsts' heads' links' : List ℕ} {n k : ℕ} → Numbered s firsts heads links q.names j firsts' heads' links' k
-    → n ≡ count_after q.names k → r ≡ with_counts q n q.variables → NameMet s j q firsts heads links (record { number = k; reader = r }) firsts' heads' links'
-name_numbered {q = q} h e f = record { numbered = h; reader_is = f ∙ ap (λ (n : ℕ). with_counts q n q.variables) e }
-
-module _ {s : List ℕ} {j : ℕ} {q : Reader} {firsts heads links firsts' heads' links' : List ℕ} {r : Met} (m : NameMet s j q firsts heads links r firsts' heads' links') where
-  names_are : r.reader.names ≡ count_after q.names r.number
-  unfolding with_counts
-  names_are = ap (λ (u : Reader). u.names) m.reader_is
-
-  variables_are : r.reader.variables ≡ q.variables
-  unfolding with_counts
-  variables_are = ap (λ (u : Reader). u.variables) m.reader_is
-
+module _ {s : List ℕ} {j n : ℕ} {firsts heads links firsts' heads' links' : List ℕ} {r : ℕ} (h : Numbered s firsts heads links n j firsts' heads' links' r) where
   -- a token t at `at` with the name at j
-  met_name : {kinds starts sizes : List ℕ} (at : ℕ) (t : Token) → Inside s kinds starts sizes q.variables → q.names < 65536
+  met_name : {kinds starts sizes : List ℕ} {m : ℕ} (at : ℕ) (t : Token) → n < 32768
       → ((ns vs : List Key) → number_in (token_of s at t) ns vs ≡ number_of (name_key (spelled (drop j s))) ns)
       → ((ns : List Key) → names_with (token_of s at t) ns ≡ adding (name_key (spelled (drop j s))) ns)
       → ((vs : List Key) → variables_with (token_of s at t) vs ≡ vs)
-      → ((n : ℕ) → n < 65536 → Fits t n) → names_in t ≡ 1 → Meeting s at t q firsts kinds starts sizes r firsts' heads' links' kinds starts sizes
-  met_name at t v small en ew ev f one =
+      → ((n : ℕ) → n < 65536 → Fits t n) → names_in t ≡ 1 → Meeting s at t firsts kinds starts sizes n m firsts' kinds starts sizes (count_after n r) m r
+  met_name at t small en ew ev f one =
       record {
-        number = m.numbered.number ∙ rw (key_is s j) (sym (en _ _));
-        fits = f r.number (omega (arith, m.numbered.most));
-        names = rw names_are (m.numbered.list ∙ rw (key_is s j) (sym (ew _)));
-        variables = rw variables_are (sym (ev _));
-        index = rw names_are m.numbered.index;
-        inside = rw variables_are v;
-        rest = m.reader_is ∙ rw (names_are, variables_are);
-        most = omega (arith, names_are, count_most q.names r.number, one);
+        number = h.number ∙ rw (key_is s j) (sym (en _ _));
+        fits = f r (omega (arith, h.most));
+        names = h.list ∙ rw (key_is s j) (sym (ew _));
+        variables = sym (ev _);
+        most = omega (arith, count_most n r, one);
       }
 
-module _ {s : List ℕ} {at : ℕ} {t : Token} {q : Reader} {firsts heads links kinds starts sizes firsts' heads' links' : List ℕ} {r : Met} (v : Inside s kinds starts sizes q.variables) (small : q.names < 65536) where
-  pub met_as_name : t ≡ T.Name → NameMet s at q firsts heads links r firsts' heads' links' → Meeting s at t q firsts kinds starts sizes r firsts' heads' links' kinds starts sizes
+module _ {at : ℕ} {t : Token} {ns ns' : Names} {vs : Variables} {r : ℕ} (small : ns.count < 32768) where
+  pub met_as_name : t ≡ T.Name → NameMet ns at ns' r → Met at t ns vs ns' vs r
   unfolding token_of number_in names_with variables_with
-  met_as_name e m = rw e (met_name m at T.Name v small (λ ns vs. refl) (λ ns. refl) (λ vs. refl) (λ n h. h) refl)
+  met_as_name e h =
+      rw e (record { meeting = rw h.count (met_name h.numbered at T.Name small (λ ns vs. refl) (λ ns. refl) (λ vs. refl) (λ n h. h) refl); names_text = h.text; variables_text = refl })
 
-  pub met_as_call : t ≡ T.Call → NameMet s (at + 1) q firsts heads links r firsts' heads' links' → Meeting s at t q firsts kinds starts sizes r firsts' heads' links' kinds starts sizes
+  pub met_as_call : t ≡ T.Call → NameMet ns (at + 1) ns' r → Met at t ns vs ns' vs r
   unfolding token_of number_in names_with variables_with
-  met_as_call e m = rw e (met_name m at T.Call v small (λ ns vs. refl) (λ ns. refl) (λ vs. refl) (λ n h. h) refl)
+  met_as_call e h =
+      rw e (record { meeting = rw h.count (met_name h.numbered at T.Call small (λ ns vs. refl) (λ ns. refl) (λ vs. refl) (λ n h. h) refl); names_text = h.text; variables_text = refl })
 
 -- VARIABLES
 
@@ -97,62 +85,56 @@ number_most x (k ∷ ks) =
           elim (see (eqb (kind x) (kind k))) [ is_true e ↦ rw (h, e, number_of) (omega arith) | is_false e ↦ rw (h, e, number_of) (omega arith) ]
     ]
 
--- a variable's number is small
-pub variable_small : {s kinds starts sizes kinds' starts' sizes' : List ℕ} {m : ℕ} {x : Key} {v : Variable} → VariableNumbered s kinds starts sizes m x kinds' starts' sizes' v → m < 49 → v.number < 49
-variable_small {s} {kinds} {starts} {sizes} {m = m} {x = x} h l = omega (arith, h.number, number_most x (keys_of s kinds starts sizes m), keys_length s kinds starts sizes m)
-
-pub variable_numbered : {s : List ℕ} {at start size k : ℕ} {q r : Reader} {kinds starts sizes kinds' starts' sizes' : List ℕ} {v : Variable} → k ≡ type_of (get_or s at 0)
-    → VariableNumbered s kinds starts sizes q.variables (k ∷ part s start size) kinds' starts' sizes' v → r ≡ with_counts q q.names v.count
-    → VariableMet s at start size q kinds starts sizes (record { number = v.number; reader = r }) kinds' starts' sizes'
-unfolding with_counts
-variable_numbered e h f = record { numbered = rw (f) (rw e at h); reader_is = f ∙ rw f }
-
-module _ {s : List ℕ} {at start size : ℕ} {q : Reader} {firsts heads links kinds starts sizes kinds' starts' sizes' : List ℕ} {r : Met}
-    (x : Index s firsts heads links q.names) (few : Few (keys_of s kinds starts sizes q.variables)) (m : VariableMet s at start size q kinds starts sizes r kinds' starts' sizes') where
-  same_names : r.reader.names ≡ q.names
-  unfolding with_counts
-  same_names = ap (λ (u : Reader). u.names) m.reader_is
-
-  small_number : r.number < 256
-  small_number = omega (arith, m.numbered.number, number_most (type_of (get_or s at 0) ∷ part s start size) (keys_of s kinds starts sizes q.variables), few_length few)
-
-  pub met_as_variable : {t : Token} → t ≡ T.Variable start size → Meeting s at t q firsts kinds starts sizes r firsts heads links kinds' starts' sizes'
-  unfolding token_of number_in names_with variables_with
-  met_as_variable e =
-      rw e
-      (record {
-        number = m.numbered.number;
-        fits = small_number;
-        names = rw same_names refl;
-        variables = m.numbered.keys;
-        index = rw same_names x;
-        inside = m.numbered.inside;
-        rest = m.reader_is ∙ rw same_names;
-        most = omega (arith, same_names);
-      })
-
 -- how many variables there are
-pub variables_few : {s firsts heads links kinds starts sizes : List ℕ} {q : Reader} → Tables s firsts heads links kinds starts sizes q → q.variables < 49
-variables_few {s = s} {kinds = kinds} {starts = starts} {sizes = sizes} {q = q} t = omega (arith, few_length t.few, keys_length s kinds starts sizes q.variables)
+pub variables_few : {ns : Names} {vs : Variables} → Sentence ns vs → vs.count ≤ 48
+variables_few {vs = vs} h =
+    omega (arith, few_length h.few, keys_length vs.text.now (kinds vs.entries) (starts vs.entries) (sizes vs.entries) vs.count)
+
+-- a variable's number is small
+pub variable_small : {ns : Names} {vs vs' : Variables} {x : Key} {r : ℕ} → Sentence ns vs → VariableMet vs x vs' r → r < 49
+variable_small {vs = vs} {x = x} sentence h = omega (arith, h.numbered.number, number_most x (keys vs), few_length sentence.few)
+
+module _ {ns : Names} {vs vs' : Variables} {at start size k r : ℕ} (sentence : Sentence ns vs) (e : k ≡ type_of (get_or ns.text.now at 0))
+    (h : VariableMet vs (k ∷ part vs.text.now start size) vs' r) where
+  pub met_as_variable : {t : Token} → t ≡ T.Variable start size → Met at t ns vs ns vs' r
+  unfolding token_of number_in names_with variables_with
+  met_as_variable f =
+      let one : vs.text.now ≡ ns.text.now = ap (λ (b : Bor (List ℕ)). b.now) sentence.text in
+      let v = rw (e, one) at h.numbered in
+      rw f (record {
+        meeting = record {
+          number = v.number;
+          fits = omega (arith, variable_small sentence h);
+          names = refl;
+          variables = v.keys;
+          most = omega arith;
+        };
+        names_text = refl;
+        variables_text = h.text;
+      })
 
 -- OTHER TOKENS
 
-module _ {s : List ℕ} {at : ℕ} {q : Reader} {firsts heads links kinds starts sizes : List ℕ} (x : Index s firsts heads links q.names) (v : Inside s kinds starts sizes q.variables) where
-  nothing_met : (t : Token) → ((ns vs : List Key) → number_in (token_of s at t) ns vs ≡ 0) → ((ns : List Key) → names_with (token_of s at t) ns ≡ ns) → ((vs : List Key) → variables_with (token_of s at t) vs ≡ vs)
-      → Fits t 0 → names_in t ≡ 0 → Meeting s at t q firsts kinds starts sizes (record { number = 0; reader = q }) firsts heads links kinds starts sizes
-  unfolding with_counts
-  nothing_met t en ew ev f none = record { number = sym (en _ _); fits = f; names = sym (ew _); variables = sym (ev _); index = x; inside = v; rest = refl; most = omega (arith, none) }
+module _ {at : ℕ} {ns : Names} {vs : Variables} where
+  nothing_met : (t : Token) → ((s : List ℕ) (ns vs : List Key) → number_in (token_of s at t) ns vs ≡ 0) → ((s : List ℕ) (ns : List Key) → names_with (token_of s at t) ns ≡ ns)
+      → ((s : List ℕ) (vs : List Key) → variables_with (token_of s at t) vs ≡ vs) → Fits t 0 → names_in t ≡ 0 → Met at t ns vs ns vs 0
+  nothing_met t en ew ev f none =
+      record {
+        meeting = record { number = sym (en _ _ _); fits = f; names = sym (ew _ _); variables = sym (ev _ _); most = omega (arith, none) };
+        names_text = refl;
+        variables_text = refl;
+      }
 
-  pub met_as_other : (t : Token) → OneOf (0 ∷ 1 ∷ 4 ∷ 5 ∷ 7 ∷ []) (tag_of the_type t) → Meeting s at t q firsts kinds starts sizes (record { number = 0; reader = q }) firsts heads links kinds starts sizes
+  pub met_as_other : (t : Token) → OneOf (0 ∷ 1 ∷ 4 ∷ 5 ∷ 7 ∷ []) (tag_of the_type t) → Met at t ns vs ns vs 0
   unfolding token_of number_in names_with variables_with
-  met_as_other T.Gap k = nothing_met T.Gap (λ ns vs. refl) (λ ns. refl) (λ vs. refl) (omega arith) refl
-  met_as_other T.Malformed k = nothing_met T.Malformed (λ ns vs. refl) (λ ns. refl) (λ vs. refl) (omega arith) refl
+  met_as_other T.Gap k = nothing_met T.Gap (λ s ns vs. refl) (λ s ns. refl) (λ s vs. refl) (omega arith) refl
+  met_as_other T.Malformed k = nothing_met T.Malformed (λ s ns vs. refl) (λ s ns. refl) (λ s vs. refl) (omega arith) refl
   met_as_other T.Name k = absurd (miss (0 ∷ 1 ∷ 4 ∷ 5 ∷ 7 ∷ []) 2 tt k)
   met_as_other T.Call k = absurd (miss (0 ∷ 1 ∷ 4 ∷ 5 ∷ 7 ∷ []) 3 tt k)
-  met_as_other (T.Macrodigit d) k = nothing_met (T.Macrodigit d) (λ ns vs. refl) (λ ns. refl) (λ vs. refl) (omega arith) refl
-  met_as_other T.String k = nothing_met T.String (λ ns vs. refl) (λ ns. refl) (λ vs. refl) (omega arith) refl
+  met_as_other (T.Macrodigit d) k = nothing_met (T.Macrodigit d) (λ s ns vs. refl) (λ s ns. refl) (λ s vs. refl) (omega arith) refl
+  met_as_other T.String k = nothing_met T.String (λ s ns vs. refl) (λ s ns. refl) (λ s vs. refl) (omega arith) refl
   met_as_other (T.Variable a b) k = absurd (miss (0 ∷ 1 ∷ 4 ∷ 5 ∷ 7 ∷ []) 6 tt k)
-  met_as_other T.Sign k = nothing_met T.Sign (λ ns vs. refl) (λ ns. refl) (λ vs. refl) (omega arith) refl
+  met_as_other T.Sign k = nothing_met T.Sign (λ s ns vs. refl) (λ s ns. refl) (λ s vs. refl) (omega arith) refl
 
 -- SPACES BETWEEN NAMES
 

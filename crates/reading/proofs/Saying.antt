@@ -6,23 +6,27 @@ use mathlib.Core.Option.{Option, none, some}
 use mathlib.Core.List.{List, [], ◌∷◌}
 use Prim.Native.Nat.{ℕ, ◌+◌, ◌-◌, ◌%◌, ◌≤◌, ◌<◌}
 use native.Mathlib.Omega.{arith}
-use lib.ListN.{length, get_or, replicate}
+use lib.ListN.{length, get_or}
 use lib.Dec.{eqb, leb}
-use borrow.Author.Tests.{le-leb, leb-true, ne_eqb}
+use borrow.Author.Tests.{le-leb, leb-true}
 use Rattle.meaning.specs.Elements.{Element, body, join, is_variable}
 use Rattle.meaning.specs.Goodness.{State as Stage, at, outside, implies, fault, tests, first_failing}
 use Rattle.meaning.proofs.Truth.{is_true, is_false, see}
 use Rattle.text.specs.Tokens.{Token as Meaning, malformed, variable, token, gap}
 use Rattle.text.specs.Tokens as Tok
 use Rattle.text.specs.Numbering.{Key, number_of}
-use Rattle.text.specs.Reading.{digits, element, free, between, owed, named as is_named, inside, Reader as Told, reader, put_all, put_some, type_of, within, heading, number_in, variables_with, entering, enter, begin, amiss, saying, reads, finish, said}
+use Rattle.text.specs.Reading.{digits, element, free, between, owed, named as is_named, inside, Reader as Told, reader, put_all, put_some, type_of, within, heading, number_in, variables_with, entering, enter, begin, says, amiss, saying, reads, finish, said}
 use Rattle.text.proofs.Kept.{put_no}
 use Rattle.kinds.specs.Stacks.{stack}
 use Rattle.taking.specs.Standing.{part_of as part_at}
 use Rattle.taking.proofs.Variables.{holds_none}
+use denote.Bor.{Bor}
 use Rattle.names.specs.Names.{keys, named}
-use Rattle.names.proofs.Chains.{index_none}
-use Rattle.variables.specs.Variables.{keys_from, keys_of, Inside}
+use Rattle.names.specs.Entries.{firsts}
+use Rattle.names.specs.declared.Names.{Names}
+use Rattle.variables.specs.Entries.{kinds, starts, sizes}
+use Rattle.variables.specs.declared.Variables.{Variables}
+use Rattle.variables.specs.Variables.{keys_from, keys_of}
 use Rattle.variables.specs.Few.{Few}
 use Rattle.variables.proofs.Few.{few_none, few_length, few_more}
 use Rattle.tokens.specs.declared.Token.{Token}
@@ -35,27 +39,24 @@ use Rattle.tokens.specs.Lexemes.{token_of, lexeme_of, lex_at, Tells}
 use Rattle.putting.specs.declared.Reader.{Reader}
 use Rattle.putting.specs.Putting.{phase_of, Filled, Stands, Able, After, Led, Barred, Entered}
 use Rattle.putting.proofs.Making.{body_type}
-use Rattle.reading.specs.declared.Met.{Met}
-use Rattle.reading.specs.Reading.{with_counts, begun, gaps, Tables, Spaced, Meeting, Finishing, ends, early, Saying, good, bad}
-use Rattle.reading.specs.declared.Said.{Said}
-use Rattle.reading.specs.declared.Said.TheVariants.{Says, Amiss}
+use Rattle.std.specs.Prelude.{Result, Ok, Err}
+use Rattle.putting.specs.declared.Phase.{Phase}
+use Rattle.putting.specs.declared.Phase.TheVariants as P
+use Rattle.reading.specs.Reading.{with_counts, begun, gaps, Spaced, Meeting, Met, Finishing, ends, early, Saying, good, bad}
 use Rattle.reading.proofs.Places.{from, gap_at, reads_on, reads_stop, reads_end, reads-begin}
 use Rattle.reading.proofs.Meeting.{number_most, spaced_on}
 
 -- what was read up to a place
-pub record Reads (s firsts heads links kinds starts sizes st buf : List ℕ) (q : Reader) (i : ℕ) : Type 0 where
+pub record Reads (s firsts kinds starts sizes st buf : List ℕ) (q : Reader) (i : ℕ) : Type 0 where
   pub told : Told
   pub stands : Stands (named s firsts) (keys_of s kinds starts sizes) q st buf told
-  pub tables : Tables s firsts heads links kinds starts sizes q
+  pub few : Few (keys_of s kinds starts sizes q.variables)
   pub spaced : Spaced s i q.names
   pub same : said s ≡ reads (length s) (from s i) told
 
 no_variables : (s kinds starts sizes : List ℕ) → keys_of s kinds starts sizes 0 ≡ []
 unfolding keys_from
 no_variables s kinds starts sizes = refl
-
-none_inside : (s kinds starts sizes : List ℕ) → Inside s kinds starts sizes 0
-none_inside s kinds starts sizes = record { room = (omega arith, omega arith, omega arith); each = λ j h. absurd (omega arith) }
 
 -- BEFORE THE FIRST TOKEN
 
@@ -67,10 +68,9 @@ nothing_filled : (buf : List ℕ) → Filled buf (join []) 0
 unfolding join
 nothing_filled buf = record { fits = λ h. (refl, refl); over = λ h. absurd (omega arith) }
 
-pub reads_first : (s firsts heads links kinds starts sizes st buf : List ℕ) → length firsts ≡ 32768 → length links ≡ 32768 → heads ≡ replicate 8192 0
-    → (length kinds ≡ 49) × (length starts ≡ 49) × (length sizes ≡ 49) → 400 ≤ length st → length buf ≤ 65536 → Reads s firsts heads links kinds starts sizes st buf begun 0
-unfolding begun phase_of part_at stack
-reads_first s firsts heads links kinds starts sizes st buf f l h w r b =
+pub reads_first : (s firsts kinds starts sizes st buf : List ℕ) → 400 ≤ length st → length buf ≤ 65536 → Reads s firsts kinds starts sizes st buf begun 0
+unfolding begun part_at stack
+reads_first s firsts kinds starts sizes st buf r b =
     record {
       told = begin;
       stands =
@@ -84,8 +84,7 @@ reads_first s firsts heads links kinds starts sizes st buf f l h w r b =
             short = b;
             filled = nothing_filled buf;
           };
-      tables =
-          record { index = rw h (index_none s firsts links 8192 (omega arith)); inside = none_inside s kinds starts sizes; few = rw (no_variables s kinds starts sizes) few_none; long = (f, l); wide = w };
+      few = rw (no_variables s kinds starts sizes) few_none;
       spaced = record { near = omega arith; next = λ c. omega arith };
       same = reads-begin s;
     }
@@ -132,16 +131,16 @@ is_token s i T.String n g = inl refl
 is_token s i (T.Variable a b) n g = inl refl
 is_token s i T.Sign n g = inl refl
 
-module _ {s firsts heads links kinds starts sizes st buf : List ℕ} {q : Reader} {i : ℕ} (R : Reads s firsts heads links kinds starts sizes st buf q i) where
+module _ {s firsts kinds starts sizes st buf : List ℕ} {q : Reader} {i : ℕ} (R : Reads s firsts kinds starts sizes st buf q i) where
   pub reads_able : Able q st buf
   reads_able = record { Ns = named s firsts; Vs = keys_of s kinds starts sizes; none = no_variables s kinds starts sizes; told = R.told; stands = R.stands }
 
-  pub reads_gap : (x : Lexeme) → Tells s i x (lex_at s i) → i < length s → gaps x.token ≡ true → Reads s firsts heads links kinds starts sizes st buf q x.end
+  pub reads_gap : (x : Lexeme) → Tells s i x (lex_at s i) → i < length s → gaps x.token ≡ true → Reads s firsts kinds starts sizes st buf q x.end
   reads_gap x t l g =
       record {
         told = R.told;
         stands = R.stands;
-        tables = R.tables;
+        few = R.few;
         spaced = spaced_on x.token l t.ahead t.proper R.spaced (omega arith);
         same = R.same ∙ ap (λ ts. reads (length s) ts R.told) (gap_at s i (x.end - (i + 1)) l (sym t.is ∙ is_gap s i x.token (x.end - (i + 1)) g) ∙ ap (from s) (end_is i x.end t.ahead));
       }
@@ -213,53 +212,41 @@ few_with (variable b x) ns vs r next h f =
     few_more (type_of b) x f lo hi (enter_variable b (number_of (type_of b ∷ x) vs) x r next h small)
 few_with (Tok.sign c) ns vs r next h f = f
 
-module _ {s firsts heads links kinds starts sizes st buf : List ℕ} {q : Reader} {i : ℕ} (R : Reads s firsts heads links kinds starts sizes st buf q i)
-    {r : Met} {firsts' heads' links' kinds' starts' sizes' : List ℕ} (x : Lexeme) (t : Tells s i x (lex_at s i)) (l : i < length s) (g : gaps x.token ≡ false)
-    (m : Meeting s i x.token q firsts kinds starts sizes r firsts' heads' links' kinds' starts' sizes') where
+module _ {s firsts kinds starts sizes st buf : List ℕ} {q : Reader} {i : ℕ} (R : Reads s firsts kinds starts sizes st buf q i)
+    {firsts' kinds' starts' sizes' : List ℕ} {n m r : ℕ} (x : Lexeme) (t : Tells s i x (lex_at s i)) (l : i < length s) (g : gaps x.token ≡ false)
+    (mt : Meeting s i x.token firsts kinds starts sizes q.names q.variables firsts' kinds' starts' sizes' n m r) where
   abbrev tok : Meaning
   tok = token_of s i x.token
 
   -- the reader that has met the token
   abbrev met : Told
-  met = reader (phase_of q.phase) (named s firsts' r.reader.names) (keys_of s kinds' starts' sizes' r.reader.variables) R.stands.stage R.stands.out
+  met = reader (phase_of q.phase) (named s firsts' n) (keys_of s kinds' starts' sizes' m) R.stands.stage R.stands.out
 
-  same_phase : r.reader.phase ≡ q.phase
-  unfolding with_counts
-  same_phase = ap (λ (u : Reader). u.phase) m.rest
-
-  same_state : r.reader.state ≡ q.state
-  unfolding with_counts
-  same_state = ap (λ (u : Reader). u.state) m.rest
-
-  same_len : r.reader.len ≡ q.len
-  unfolding with_counts
-  same_len = ap (λ (u : Reader). u.len) m.rest
-
-  known : Stands (named s firsts') (keys_of s kinds' starts' sizes') r.reader st buf met
+  known : Stands (named s firsts') (keys_of s kinds' starts' sizes') (with_counts q n m) st buf met
   known =
       record {
         stage = R.stands.stage;
         out = R.stands.out;
-        is = rw same_phase refl;
-        means = rw same_state R.stands.means;
-        program = rw same_state R.stands.program;
+        is = refl;
+        means = R.stands.means;
+        program = R.stands.program;
         room = R.stands.room;
         short = R.stands.short;
-        filled = rw same_len R.stands.filled;
+        filled = R.stands.filled;
       }
 
-  pub known_able : Able r.reader st buf
+  pub known_able : Able (with_counts q n m) st buf
   known_able = record { Ns = named s firsts'; Vs = keys_of s kinds' starts' sizes'; none = no_variables s kinds' starts' sizes'; told = met; stands = known }
 
-  pub known_entered : Entered s i x.token x.end r.number
-  known_entered = record { ahead = t.ahead; proper = t.proper; fits = m.fits }
+  pub known_entered : Entered s i x.token x.end r
+  known_entered = record { ahead = t.ahead; proper = t.proper; fits = mt.fits }
 
-  enter_is : enter tok R.told ≡ entering tok r.number met
+  enter_is : enter tok R.told ≡ entering tok r met
   unfolding enter
-  enter_is = rw (R.stands.is, ← m.number, ← m.names, ← m.variables)
+  enter_is = rw (R.stands.is, ← mt.number, ← mt.names, ← mt.variables)
 
   -- a token that stops the reader
-  pub turn_bad : Barred (entering tok r.number) r.reader st buf → said s ≡ amiss i
+  pub turn_bad : Barred (entering tok r) (with_counts q n m) st buf → said s ≡ amiss i
   turn_bad b =
       let e : enter tok R.told ≡ none = enter_is ∙ b (named s firsts') (keys_of s kinds' starts' sizes') (no_variables s kinds' starts' sizes') met known in
       elim (is_token s i x.token (x.end - (i + 1)) g) [
@@ -267,9 +254,8 @@ module _ {s firsts heads links kinds starts sizes st buf : List ℕ} {q : Reader
         | inr (h, f) ↦ R.same ∙ reads_stop s (length s) i 0 malformed R.told l (sym t.is ∙ h) (rw f at e)
       ]
 
-  module _ {q'' : Reader} {st'' buf'' : List ℕ} (d : Led (entering tok r.number) r.reader st buf q'' st'' buf'')
-      (lengths : (length firsts' ≡ length firsts) × (length links' ≡ length links) × (length kinds' ≡ length kinds) × (length starts' ≡ length starts) × (length sizes' ≡ length sizes)) where
-    after : After (entering tok r.number) (named s firsts') (keys_of s kinds' starts' sizes') met q'' st'' buf''
+  module _ {q'' : Reader} {st'' buf'' : List ℕ} (d : Led (entering tok r) (with_counts q n m) st buf q'' st'' buf'') where
+    after : After (entering tok r) (named s firsts') (keys_of s kinds' starts' sizes') met q'' st'' buf''
     after = d.after (named s firsts') (keys_of s kinds' starts' sizes') (no_variables s kinds' starts' sizes') met known
 
     reads_next : said s ≡ reads (length s) (from s x.end) after.next
@@ -279,67 +265,69 @@ module _ {s firsts heads links kinds starts sizes st buf : List ℕ} {q : Reader
           | inl h ↦
               R.same ∙ reads_on s (length s) i (x.end - (i + 1)) tok R.told after.next l (sym t.is ∙ h) e
               ∙ ap (λ (j : ℕ). reads (length s) (from s j) after.next) (end_is i x.end t.ahead)
-          | inr (h, f) ↦ absurd (none_some (sym (enter_malformed r.number met) ∙ (rw f at after.is)))
+          | inr (h, f) ↦ absurd (none_some (sym (enter_malformed r met) ∙ (rw f at after.is)))
         ]
 
     few_next : Few (keys_of s kinds' starts' sizes' q''.variables)
     few_next =
         elim d.variables [
-          | inl e ↦ rw (e, m.variables) (few_with tok (named s firsts q.names) (keys_of s kinds starts sizes q.variables) met after.next (rw (← m.number) after.is) R.tables.few)
+          | inl e ↦ rw (e, mt.variables) (few_with tok (named s firsts q.names) (keys_of s kinds starts sizes q.variables) met after.next (rw (← mt.number) after.is) R.few)
           | inr e ↦ rw (e, no_variables s kinds' starts' sizes') few_none
         ]
 
-    inside_next : Inside s kinds' starts' sizes' q''.variables
-    inside_next = elim d.variables [ inl e ↦ rw e m.inside | inr e ↦ rw e (none_inside s kinds' starts' sizes') ]
+    pub kept_most : q''.variables ≤ m
+    kept_most = elim d.variables [ inl e ↦ omega arith | inr e ↦ omega arith ]
 
-    pub turn : Reads s firsts' heads' links' kinds' starts' sizes' st'' buf'' q'' x.end
+    pub turn : Reads s firsts' kinds' starts' sizes' st'' buf'' q'' x.end
     turn =
-        let (lf, ll, lk, la, lz) = lengths in
-        let (wk, wa, wz) = R.tables.wide in
         record {
           told = after.next;
           stands = after.stands;
-          tables = record { index = rw d.names m.index; inside = inside_next; few = few_next; long = (lf ∙ R.tables.long.0, ll ∙ R.tables.long.1); wide = (lk ∙ wk, la ∙ wa, lz ∙ wz) };
-          spaced = spaced_on x.token l t.ahead t.proper R.spaced (omega (arith, d.names, m.most));
+          few = few_next;
+          spaced = spaced_on x.token l t.ahead t.proper R.spaced (omega (arith, d.names, mt.most));
           same = reads_next;
         }
 
 -- THE END
 
-finish-put : (n p : ℕ) (ns vs : List Key) (st : Stage) (out : List Element) → (p ≡ 2 → ⊥) → finish n (reader (phase_of p) ns vs st out) ≡ saying n (put_all (element 15 0 ∷ []) (reader (phase_of p) ns vs st out))
-unfolding finish phase_of
-finish-put n p ns vs st out h =
-    elim (see (eqb p 1)) [
-      | is_true a ↦ rw a
-      | is_false a ↦ elim (see (eqb p 3)) [
-        | is_true b ↦ rw (a, ne_eqb p 2 h, b)
-        | is_false b ↦ elim (see (eqb p 4)) [ is_true c ↦ rw (a, ne_eqb p 2 h, b, c) | is_false c ↦ rw (a, ne_eqb p 2 h, b, c) ]
-      ]
-    ]
+finish-put : (n : ℕ) (p : Phase) (ns vs : List Key) (st : Stage) (out : List Element) → (p ≡ P.Owed → ⊥) → finish n (reader (phase_of p) ns vs st out) ≡ saying n (put_all (element 15 0 ∷ []) (reader (phase_of p) ns vs st out))
+unfolding finish
+finish-put n P.Free ns vs st out h = refl
+finish-put n P.Between ns vs st out h = refl
+finish-put n P.Owed ns vs st out h = absurd (h refl)
+finish-put n P.Named ns vs st out h = refl
+finish-put n P.Inside ns vs st out h = refl
 
 module _ (m : ℕ) {q : Reader} {st buf : List ℕ} where
-  pub finish_owed : q.phase ≡ 2 → Finishing m q st buf buf (Amiss m)
-  unfolding finish phase_of
+  pub finish_owed : q.phase ≡ P.Owed → Finishing m q st buf buf (Err m)
+  unfolding finish
   finish_owed e = early (λ Ns Vs z r s. rw (s.is, e))
 
-  module _ (n : q.phase ≡ 2 → ⊥) where
+  module _ (n : q.phase ≡ P.Owed → ⊥) where
     -- the end makes 0F
     at_end : {Ns Vs : ℕ → List Key} {r : Told} → Stands Ns Vs q st buf r → finish m r ≡ saying m (put_all (element 15 0 ∷ []) r)
     at_end s = rw s.is (finish-put m q.phase _ _ s.stage s.out n)
 
-    pub finish_early : {buf' : List ℕ} → Barred (put_all (element 15 0 ∷ [])) q st buf → Finishing m q st buf buf' (Amiss m)
+    pub finish_early : {buf' : List ℕ} → Barred (put_all (element 15 0 ∷ [])) q st buf → Finishing m q st buf buf' (Err m)
     finish_early b = early (λ Ns Vs z r s. at_end s ∙ ap (saying m) (b Ns Vs z r s))
 
-    pub finish_good : {q' : Reader} {st' buf' : List ℕ} → Led (put_all (element 15 0 ∷ [])) q st buf q' st' buf' → Finishing m q st buf buf' (Says q'.names q'.len)
+    pub finish_good : {q' : Reader} {st' buf' : List ℕ} → Led (put_all (element 15 0 ∷ [])) q st buf q' st' buf' → Finishing m q st buf buf' (Ok q'.len)
     finish_good {q'} d =
-        ends d.names (λ Ns Vs z r s.
+        ends (λ Ns Vs z r s.
         let a = d.after Ns Vs z r s in
-        (a.stands.out, at_end s ∙ ap (saying m) (a.is ∙ ap some a.stands.is), a.stands.filled))
+        (a.stands.out, at_end s ∙ ap (saying m) (a.is ∙ ap some a.stands.is) ∙ ap (λ (k : ℕ). says a.stands.out (Ns k)) d.names, a.stands.filled))
 
-pub saying_end : {s firsts heads links kinds starts sizes st buf buf' : List ℕ} {q : Reader} {i : ℕ} {o : Said} → Reads s firsts heads links kinds starts sizes st buf q i → length s ≤ i
-    → Finishing (length s) q st buf buf' o → Saying s firsts buf' o
-saying_end {s} {firsts} {kinds = kinds} {starts = starts} {sizes = sizes} {i = i} R l (ends {n} {len} e f) =
+pub saying_end : {s firsts kinds starts sizes st buf buf' : List ℕ} {q : Reader} {i : ℕ} {o : Result ℕ ℕ} → Reads s firsts kinds starts sizes st buf q i → length s ≤ i
+    → Finishing (length s) q st buf buf' o → Saying s firsts q.names buf' o
+saying_end {s} {firsts} {kinds = kinds} {starts = starts} {sizes = sizes} {i = i} R l (ends {len} f) =
     let (es, h, w) = f (named s firsts) (keys_of s kinds starts sizes) (no_variables s kinds starts sizes) R.told R.stands in
-    good {n = n} {len = len} es (R.same ∙ reads_end s (length s) i R.told l ∙ h) w (rw e R.tables.index.places)
+    good {len = len} es (R.same ∙ reads_end s (length s) i R.told l ∙ h) w
 saying_end {s} {firsts} {kinds = kinds} {starts = starts} {sizes = sizes} {i = i} R l (early f) =
     bad (R.same ∙ reads_end s (length s) i R.told l ∙ f (named s firsts) (keys_of s kinds starts sizes) (no_variables s kinds starts sizes) R.told R.stands)
+
+-- a token met, among what was read
+pub meeting_of : {at r : ℕ} {t : Token} {ns ns' : Names} {vs vs' : Variables} → Met at t ns vs ns' vs' r → (q : Reader) (b : Bor (List ℕ)) → ns.text ≡ b
+    → q.names ≡ ns.count → q.variables ≡ vs.count
+    → Meeting b.now at t (firsts ns.entries) (kinds vs.entries) (starts vs.entries) (sizes vs.entries) q.names q.variables
+    (firsts ns'.entries) (kinds vs'.entries) (starts vs'.entries) (sizes vs'.entries) ns'.count vs'.count r
+meeting_of m q b e n v = rw (← e, n, v) m.meeting

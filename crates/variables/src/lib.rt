@@ -16,6 +16,7 @@ pub struct Entry {
 }
 
 // The variables of a sentence of a text so far; 48 are good, and one more is met before it is found bad.
+#[derive(Drop)]
 pub struct Variables<'a> {
     pub text: &'a [u8],
     pub entries: [Entry; 49],

@@ -1,30 +1,21 @@
 use native.Mathlib.Omega.{arith}
+use denote.Enum.Bare.{same_true, same_false}
+use mathlib.Core.Path.{sym, ◌∙◌}
 use Rattle.meaning.specs.Elements.{body}
+use Rattle.putting.specs.contracts.Phase.{the_type}
 use Rattle.putting.proofs.Putting.{led, barred}
 use Rattle.reading.proofs.Saying.{finish_owed, finish_early, finish_good}
 use Rattle.reading.proofs.finish.Goals as goal
 
-pub returns-then-reader-eq-OWED : goal.returns-then-reader-eq-OWED
-returns-then-reader-eq-OWED c = finish_owed _ c.if-reader-eq-OWED.true
+pub returns-then-eq : goal.returns-then-eq
+returns-then-eq c = finish_owed _ (same_true the_type tt _ _ (sym c.eq.ensures ∙ c.if-eq.true))
 
 pub put-requires : goal.put-requires
 unfolding body
-put-requires c = (c.requires.0, c.requires.1, omega arith)
+put-requires c = (c.requires, omega arith)
 
-pub shape_of-stack-in_default : goal.shape_of-stack-in_default
-shape_of-stack-in_default c = c.put.auto.stack
+pub returns-in-Some : goal.returns-in-Some
+returns-in-Some c = finish_good _ (same_false the_type _ _ (sym c.eq.ensures ∙ c.if-eq.false)) (led c.in-Some.ensures)
 
-pub shape_of-buf-in_default : goal.shape_of-buf-in_default
-shape_of-buf-in_default c = c.put.auto.buf
-
-pub returns-in_default : goal.returns-in_default
-returns-in_default c = finish_early _ c.if-reader-eq-OWED.false (barred c.put.ensures c.in_default.is)
-
-pub shape_of-stack : goal.shape_of-stack
-shape_of-stack c = c.put.auto.stack
-
-pub shape_of-buf : goal.shape_of-buf
-shape_of-buf c = c.put.auto.buf
-
-pub returns : goal.returns
-returns c = finish_good _ c.if-reader-eq-OWED.false (led c.put.ensures c.in-Good.is)
+pub returns-in-None : goal.returns-in-None
+returns-in-None c = finish_early _ (same_false the_type _ _ (sym c.eq.ensures ∙ c.if-eq.false)) (barred c.in-None.ensures)

@@ -1,14 +1,19 @@
 use mathlib.Core.Path.{◌≡◌}
 use Prim.Native.Nat.{◌-◌}
 use lib.ListN.{length}
+use Rattle.names.specs.Entries.{firsts}
+use Rattle.variables.specs.Entries.{kinds, starts, sizes}
 use Rattle.reading.proofs.Saying.{Reads}
 use Rattle.reading.proofs.say.Given as goal
 
 abbrev pub invariant-loop-at : goal.invariant-loop-at
-invariant-loop-at l =
-    Reads l.text l.firsts l.heads l.links l.kinds l.starts l.sizes l.stack l.buf l.reader l.at
-    × (length l.firsts ≡ length l.initial.firsts) × (length l.heads ≡ length l.initial.heads) × (length l.links ≡ length l.initial.links) × (length l.buf ≡ length l.initial.buf) × (length l.stack ≡ 400)
+invariant-loop-at l = record {
+  reads : Reads l.text (firsts l.names.entries) (kinds l.variables.entries) (starts l.variables.entries) (sizes l.variables.entries) l.stack l.buf l.reader l.at;
+  names_are : l.reader.names ≡ l.names.count;
+  variables_are : l.reader.variables ≡ l.variables.count;
+  names_text : l.names.text ≡ l.initial.names.text;
+  variables_text : l.variables.text ≡ l.names.text;
+}
 
 abbrev pub decreases-loop-at : goal.decreases-loop-at
-decreases-loop-at l =
-    length l.text - l.at
+decreases-loop-at l = length l.text - l.at
