@@ -14,28 +14,15 @@ use Rattle.desk.proofs.Calls.{call_alters_nothing}
 use Rattle.embed.specs.Face.{lent, run_face, kept, desk_face, spot, pointer_face, read_face}
 use Rattle.text.specs.Answers.{reply, outcome, read_text}
 
-pub three_written : (l : List ℕ) (a b c : ℕ) → 3 ≤ length l → set (set (set l 0 a) 1 b) 2 c ≡ a ∷ b ∷ c ∷ drop 3 l
-three_written [] a b c h = absurd (omega (arith, h))
-three_written (x ∷ []) a b c h = absurd (omega (arith, h))
-three_written (x ∷ y ∷ []) a b c h = absurd (omega (arith, h))
-three_written (x ∷ y ∷ z ∷ l) a b c h = refl
-
-fourth_written : (l : List ℕ) (a b c d : ℕ) → 4 ≤ length l → set (a ∷ b ∷ c ∷ drop 3 l) 3 d ≡ a ∷ b ∷ c ∷ d ∷ drop 4 l
-fourth_written [] a b c d h = absurd (omega (arith, h))
-fourth_written (x ∷ []) a b c d h = absurd (omega (arith, h))
-fourth_written (x ∷ y ∷ []) a b c d h = absurd (omega (arith, h))
-fourth_written (x ∷ y ∷ z ∷ []) a b c d h = absurd (omega (arith, h))
-fourth_written (x ∷ y ∷ z ∷ w ∷ l) a b c d h = refl
-
 module _ (p f : List ℕ) (used : ℕ) (s : List ℕ) (budget : ℕ) (l : List ℕ) where
   pub no_answer : length l < 4 → run_face p f used s budget l ≡ lent l f s
   unfolding run_face
   no_answer h = rw (lt-ltb (length l) 4 h)
 
   pub answer_told : 4 ≤ length l → {c k u i n : ℕ} {f' s' l' : List ℕ} → machine p f used s budget ≡ answer c k u i f' s' → n ≡ c
-      → l' ≡ n ∷ k ∷ u ∷ drop 3 l → run_face p f used s budget l ≡ lent (set l' 3 i) f' s'
+      → l' ≡ n ∷ k ∷ u ∷ i ∷ drop 4 l → run_face p f used s budget l ≡ lent l' f' s'
   unfolding run_face
-  answer_told h {c} {k} {u} {i} m e w = rw (le-ltb (length l) 4 h, m, w, e, fourth_written l c k u i h)
+  answer_told h {c} {k} {u} {i} m e w = rw (le-ltb (length l) 4 h, m, w, e)
 
 module _ (t p n l : List ℕ) where
   pub nothing_read : length l < 4 → read_face t p n l ≡ lent l p n
@@ -43,9 +30,9 @@ module _ (t p n l : List ℕ) where
   nothing_read h = rw (lt-ltb (length l) 4 h)
 
   pub read_told : 4 ≤ length l → {c k u i m : ℕ} {p' n' l' : List ℕ} → outcome (reply c k u i) p' n' ≡ read_text t p n → m ≡ c
-      → l' ≡ m ∷ k ∷ u ∷ drop 3 l → read_face t p n l ≡ lent (set l' 3 i) p' n'
+      → l' ≡ m ∷ k ∷ u ∷ i ∷ drop 4 l → read_face t p n l ≡ lent l' p' n'
   unfolding read_face
-  read_told h {c} {k} {u} {i} r e w = rw (le-ltb (length l) 4 h, ← r, w, e, fourth_written l c k u i h)
+  read_told h {c} {k} {u} {i} r e w = rw (le-ltb (length l) 4 h, ← r, w, e)
 
 module _ (p f s : List ℕ) where
   pub no_record : (l : List ℕ) → length l < 3 → desk_face l p f s ≡ lent l f s

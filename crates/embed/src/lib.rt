@@ -1,7 +1,7 @@
 // The face for C: run, the desk's call, the pointer and reading over plain numbers. A slice is a pointer and a length there.
 #![tactic(auto)]
 
-ghost use Rattle.std.specs.Prelude.{◌≡◌, List, ◌∷◌, ℕ, ◌≤◌, length, drop};
+ghost use Rattle.std.specs.Prelude.{◌≡◌, List, ◌++◌, ℕ, ◌≤◌, length, drop};
 ghost use Rattle.meaning.specs.Pointer.{pointer};
 ghost use Rattle.machine.specs.Codes.{code_of};
 ghost use Rattle.embed.specs.Face.{lent, run_face, desk_face, pointer_face, read_face};
@@ -9,14 +9,12 @@ ghost use Rattle.embed.specs.Face.{lent, run_face, desk_face, pointer_face, read
 use desk::Record;
 use machine::{Answer, Code};
 
-// The first three of some numbers.
-fn write(numbers: &mut [u64], first: u64, second: u64, third: u64)
-    requires { 3 ≤ length numbers.old }
-    ensures { numbers.new ≡ first ∷ second ∷ third ∷ drop 3 numbers.old }
+// The first N of some numbers.
+fn write<const N: usize>(numbers: &mut [u64], first: [u64; N])
+    requires { N ≤ length numbers.old }
+    ensures { numbers.new ≡ first.entry ++ drop N numbers.old }
 {
-    numbers[0] = first;
-    numbers[1] = second;
-    numbers[2] = third;
+    numbers[..N].copy_from_slice(&first);
 }
 
 // Writes code, steps, used length and place into the answer; touches nothing where that has no room for four.
@@ -35,14 +33,15 @@ pub extern "C" fn odolzagi_run(
         return;
     }
     let ran = machine::run(program, field, used, scratch, budget);
-    let code = ran.code;
     write(
         answer,
-        machine::number(code) as u64,
-        ran.steps as u64,
-        ran.used as u64,
+        [
+            machine::number(ran.code) as u64,
+            ran.steps as u64,
+            ran.used as u64,
+            ran.place as u64,
+        ],
     );
-    answer[3] = ran.place as u64;
 }
 
 // One call of the desk on a record of used length, code and place; touches nothing where it has no room for three.
@@ -67,16 +66,18 @@ pub extern "C" fn odolzagi_desk(
         place: noted[2] as usize,
     };
     let new = desk::call(old, program, field, scratch);
-    let code = new.code;
     write(
         noted,
-        new.used as u64,
-        machine::number(code) as u64,
-        new.place as u64,
+        [
+            new.used as u64,
+            machine::number(new.code) as u64,
+            new.place as u64,
+        ],
     );
 }
 
-// The code that points where a number does; a number that is no code points at nothing, as `Done` does.
+// The code that points where a number does; a number that is no code points at nothing, as `Done` does. That is an answer and no error, so
+// a TryFrom would be no plainer.
 fn coded(number: u64) -> Code
     ensures { (used place : ℕ) → (p f : List ℕ) → pointer (code_of result) used place p f ≡ pointer number used place p f }
 {
@@ -126,14 +127,14 @@ pub extern "C" fn odolzagi_pointer<'a>(
     }
     let length = part_length(code, used, place, program, field);
     if length == 0 {
-        write(part, 0, 0, 0);
+        write(part, [0, 0, 0]);
         return;
     }
     if code == 6 {
-        write(part, 1, place as u64, length as u64);
+        write(part, [1, place as u64, length as u64]);
         return;
     }
-    write(part, 2, place as u64, length as u64);
+    write(part, [2, place as u64, length as u64]);
 }
 
 // Writes code, program bytes, list bytes and place into the numbers; touches nothing where they have no room for four.
@@ -150,12 +151,13 @@ pub extern "C" fn odolzagi_read(
         return;
     }
     let read = reading::read(text, program, names);
-    let code = read.code;
     write(
         numbers,
-        reading::number(code) as u64,
-        read.program as u64,
-        read.names as u64,
+        [
+            reading::number(read.code) as u64,
+            read.program as u64,
+            read.names as u64,
+            read.place as u64,
+        ],
     );
-    numbers[3] = read.place as u64;
 }
