@@ -50,7 +50,7 @@ pub fn class_of(b: u8) -> Class
     CLASSES[b as usize]
 }
 
-// A byte of a name in its one spelling; 0 for a byte that cannot stand in a name.
+// A byte of a name in its one spelling; 0 for a byte that cannot stand in a name, so that one test tells two names apart, and their ends.
 pub fn spelling_of(b: u8) -> u8
     ensures { result ≡ spelling b }
 {

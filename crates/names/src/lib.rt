@@ -15,7 +15,8 @@ ghost use Rattle.names.specs.Entries.{firsts, links};
 // The kind of a record of the list.
 const NAME: u8 = 20;
 
-// A name: where it first begins, and one more than the number of the name before it in its bucket, or 0 if there is none.
+// A name: where it first begins, and one more than the number of the name before it in its bucket, or 0 if there is none. There is no
+// heap, so a bucket is such a chain.
 #[derive(Clone, Copy)]
 pub struct Entry {
     pub first: u16,
@@ -128,9 +129,8 @@ impl<'a> Names<'a> {
         }
     }
 
-    // The number of the name that begins at `at`: that of the first which equals it, or the count.
-    // Its bucket b is walked from the latest name back.
-    fn find(&self, at: usize, b: usize) -> usize
+    // The number of the name that begins at `at`, if it is known. Its bucket b is walked from the latest name back.
+    fn find(&self, at: usize, b: usize) -> Option<usize>
         requires { (at < length self.now.text.now) × (b ≡ bucket (key_at self.now.text.now at)) × (b < 8192) }
         ensures { Found self.now at result }
     {
@@ -139,11 +139,11 @@ impl<'a> Names<'a> {
             let k = h - 1;
             let entry = self.entries[k];
             if same_name(self.text, at, entry.first as usize) {
-                return k;
+                return Some(k);
             }
             h = entry.link as usize;
         }
-        self.count
+        None
     }
 
     // The number of the name that begins at `at`; a new name gets the next number, and is the latest of its bucket.
@@ -153,15 +153,16 @@ impl<'a> Names<'a> {
         ensures { Numbered self.old at self.new result }
     {
         let b = bucket_of(self.text, at);
-        let number = self.find(at, b);
-        if number == self.count {
-            self.entries[number] = Entry {
-                first: at as u16,
-                link: self.heads[b],
-            };
-            self.heads[b] = (number + 1) as u16;
-            self.count = number + 1;
+        if let Some(known) = self.find(at, b) {
+            return known;
         }
+        let number = self.count;
+        self.entries[number] = Entry {
+            first: at as u16,
+            link: self.heads[b],
+        };
+        self.heads[b] = (number + 1) as u16;
+        self.count = number + 1;
         number
     }
 

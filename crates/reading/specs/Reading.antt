@@ -85,6 +85,6 @@ pub data Saying (s firsts : List ℕ) (n : ℕ) (buf : List ℕ) : Result ℕ �
   bad : {i : ℕ} → said s ≡ amiss i → Saying s firsts n buf (Err i)
 
 -- the table has the names of the text, which stays
-pub record Told_by (ns ns' : Names) (buf : List ℕ) (r : Result ℕ ℕ) : Type 0 where
+pub record ToldBy (ns ns' : Names) (buf : List ℕ) (r : Result ℕ ℕ) : Type 0 where
   pub saying : Saying ns.text.now (firsts ns'.entries) ns'.count buf r
   pub text : ns'.text ≡ ns.text

@@ -9,7 +9,7 @@ ghost use Rattle.names.specs.Names.{named};
 ghost use Rattle.names.specs.Entries.{firsts};
 ghost use Rattle.tokens.specs.Lexemes.{Proper};
 ghost use Rattle.putting.specs.Putting.{Filled, Able};
-ghost use Rattle.reading.specs.Reading.{begun, gaps, Spaced, Sentence, Met, Finishing, Told_by};
+ghost use Rattle.reading.specs.Reading.{begun, gaps, Spaced, Sentence, Met, Finishing, ToldBy};
 ghost use Rattle.reading.specs.Answers.{code_of, reply_of};
 
 use elements::Element;
@@ -117,13 +117,14 @@ fn begin() -> Reader
 // Reads the text of the names, token by token, into a buffer; the bytes of the program, or the place where the text is bad.
 fn say(names: &mut Names, buf: &mut [u8]) -> Result<usize, usize>
     requires { (names.old.count ≡ 0) × (length buf.old ≡ 65536) }
-    ensures { Told_by names.old names.new buf.new result }
+    ensures { ToldBy names.old names.new buf.new result }
 {
     let text = names.text;
     let mut variables = Variables::new(text);
     let mut stack = [0u8; 400];
     let mut reader = begin();
     let mut at: usize = 0;
+    // Where the next lexeme begins is known only behind this one, so no range has the places.
     while at < text.len() {
         let lexeme = tokens::lex(text, at);
         if is_gap(lexeme.token) {

@@ -1,4 +1,5 @@
-// What begins at a place of a text: a token, or a gap.
+// What begins at a place of a text: a token, or a gap. Text and place stay two parameters: a struct of them would be made anew for each of
+// the places at, at + 1 and at + 2.
 #![tactic(auto)]
 
 ghost use Rattle.std.specs.Prelude.{◌≡◌, true, false, ◌||◌, ◌+◌, ◌*◌, ◌-◌, ◌≤◌, ◌<◌, length, get_or, drop};

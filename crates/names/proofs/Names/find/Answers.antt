@@ -18,9 +18,11 @@ same_name-requires-clause-a_in_bounds c =
 
 pub returns-then-same_name : goal.returns-then-same_name
 returns-then-same_name c =
-    let q = c.args.self.now in
-    walk_found q.index c.args.at _ c.loop-h.invariant (omega arith)
-    (same_eq _ _ (sym c.same_name.ensures ∙ c.if-same_name.true) ∙ ap (key_at q.text.now) (sym (first_at q.entries (c.loop-h.h - 1))))
+    let q = c.args.self.now in (
+      omega (arith, c.loop-h.invariant.within),
+      walk_found q.index c.args.at _ c.loop-h.invariant (omega arith)
+          (same_eq _ _ (sym c.same_name.ensures ∙ c.if-same_name.true) ∙ ap (key_at q.text.now) (sym (first_at q.entries (c.loop-h.h - 1)))),
+    )
 
 pub loop-h-smaller : goal.loop-h-smaller
 loop-h-smaller c =
