@@ -12,6 +12,9 @@ use std::io::{BufReader, Read};
 use std::rt::Files;
 use std::{fmt, fs, io};
 
+#[cfg(test)]
+mod tests;
+
 // Every case of a file, up to 100000 of them; where there is no such file, none. `case` gives none where there is no more.
 pub fn each_case<
     R: Files<File = File> + AllocGlobal,

@@ -33,6 +33,7 @@ fn line_of(text: &[u8], place: usize) -> Line<'_>
     requires place_in_bounds { place ≤ length text.now }
     ensures { length result.before.now ≤ place }
 {
+    // By hand: of what `filter` and `last` or `rfind` give, no proof was found that it lies within the range.
     let mut number: usize = 1;
     let mut start: usize = 0;
     for at in 1..place + 1 {
