@@ -44,7 +44,7 @@ end_kind k z =
 module _ (q : State) (k v : ℕ) (st : List ℕ) (R : Ready q st) (known : span 1 15 k ≡ true) (stood : stands (part_of q.part) k ≡ true)
     (nu : implies (span 8 10 k) (leb v 15) ≡ true) (p : paired k (stack q.depth st) ≡ true) (new : Bool) (en : new ≡ fresh q.set k v)
     (lim : 0 ≡ first_failing 6 (limits_of q k new)) (to : ℕ) (et : Some to ≡ next_of (part_of q.part) k) where
-  good : 0 ≡ first_failing 3 (stands (part_of q.part) k ∷ tests_of q k v (stack q.depth st) new)
+  good : 0 ≡ first_failing 3 (tests_of q k v (stack q.depth st) new)
   unfolding tests_of
   good = follows 3 _ stood (follows 4 _ nu (follows 5 _ p lim))
 

@@ -50,7 +50,7 @@ ok_same e f = cc
 
 -- the tests found f, 0 or the first that fails; new says whether the element is a fresh variable
 module _ (q : State) (k v : ℕ) (st : List ℕ) (new : Bool) (en : new ≡ fresh q.set k v) (f : ℕ)
-    (ef : f ≡ first_failing 3 (stands (part_of q.part) k ∷ tests_of q k v (stack q.depth st) new)) where
+    (ef : f ≡ first_failing 3 (tests_of q k v (stack q.depth st) new)) where
   abbrev p : Part
   p = part_of q.part
 
@@ -75,7 +75,7 @@ module _ (q : State) (k v : ℕ) (st : List ℕ) (new : Bool) (en : new ≡ fres
     whole : eqb (length x) (suc (body (kind x))) ≡ true
     whole = eq-eqb (length x) (suc (body (kind x))) (rw I.kind_is I.whole_is)
 
-    same : fault s x ≡ first_failing 3 (stands p k ∷ tests_of q k v opens new)
+    same : fault s x ≡ first_failing 3 (tests_of q k v opens new)
     unfolding fault tests tests_of limits_of
     same =
         rw M.is
@@ -101,13 +101,14 @@ module _ (q : State) (k v : ℕ) (st : List ℕ) (new : Bool) (en : new ≡ fres
 
   -- none fails
   module _ (none : f ≡ 0) (R : Ready q st) (known : span 1 15 k ≡ true) where
-    passed : All (stands p k ∷ tests_of q k v opens new)
-    passed = all 2 (stands p k ∷ tests_of q k v opens new) (sym ef ∙ none)
+    passed : All (tests_of q k v opens new)
+    passed = all 2 (tests_of q k v opens new) (sym ef ∙ none)
 
     kind_small : k < 16
     kind_small = let z = span_le 1 15 k known in omega arith
 
     stood : stands p k ≡ true
+    unfolding tests_of
     stood = passed.0
 
     numbered : implies (span 8 10 k) (leb (v) 15) ≡ true

@@ -54,7 +54,7 @@ needed part n = cond (eqb part 0) n 400
 unfoldable pub fresh : ℕ → ℕ → ℕ → Bool
 fresh slots k v = span 8 10 k && (leb v 15 && not (within slots (slot_of k v)))
 
--- the tests of the definition by what the code has at hand: the last two, and those from the fourth on
+-- the tests of the definition by what the code has at hand: the last two, and those from the third on
 unfoldable pub limits_of : State → ℕ → Bool → List Bool
 limits_of q k new =
     ((ends_side k || under_limit (part_of q.part) q.count) && implies new (on_right (part_of q.part) || ltb q.number 16))
@@ -62,7 +62,8 @@ limits_of q k new =
     ∷ []
 
 unfoldable pub tests_of : State → ℕ → ℕ → List ℕ → Bool → List Bool
-tests_of q k v opens new = implies (span 8 10 k) (leb v 15) ∷ paired k opens ∷ limits_of q k new
+tests_of q k v opens new =
+    stands (part_of q.part) k ∷ implies (span 8 10 k) (leb v 15) ∷ paired k opens ∷ limits_of q k new
 
 -- the numbers of the state after an element that passed fit their types
 abbrev pub Movable : State → ℕ → ℕ → Bool → Type 0

@@ -3,7 +3,7 @@
 
 ghost use Rattle.std.specs.Prelude.{◌≡◌, true, false, ◌||◌, List, ℕ, ◌+◌, ◌^◌, ◌≤◌, ◌<◌, length, leb, ltb};
 ghost use Rattle.meaning.specs.Elements.{Element as Bytes};
-ghost use Rattle.meaning.specs.Goodness.{at, span, implies, ends_side, top, paired, under_limit, first_failing, sided, count_after, may_end};
+ghost use Rattle.meaning.specs.Goodness.{at, span, stands, implies, ends_side, top, paired, under_limit, first_failing, sided, count_after, may_end};
 ghost use Rattle.kinds.specs.Stacks.{stack as opened};
 ghost use Rattle.elements.specs.Bytes.{kind_of, number_of};
 ghost use Rattle.taking.specs.Standing.{part_of, next_of, fault_of, stack_after, depth_after, fresh, limits_of, tests_of, Movable, moved_to, Ready, Steps};
@@ -162,8 +162,8 @@ fn test_limits(state: State, kind: u8, new: bool) -> Result<(), Fault>
 
 // The tests of an element that can stand, in the order of the definition.
 fn test(state: State, kind: u8, number: u32, new: bool, stack: &[u8]) -> Result<(), Fault>
-    requires { state.depth ≤ length stack.now }
-    ensures { fault_of result ≡ first_failing 4 (tests_of state kind number (opened state.depth stack.now) new) }
+    requires { (stands (part_of state.part) kind ≡ true) × (state.depth ≤ length stack.now) }
+    ensures { fault_of result ≡ first_failing 3 (tests_of state kind number (opened state.depth stack.now) new) }
 {
     if !is_numbered(kind, number) {
         return Err(Fault::NumberTooHigh);
