@@ -1,7 +1,7 @@
 // Where an e-variable's value can end, as far as what comes next in the left side says.
 #![tactic(auto)]
 
-ghost use Rattle.std.specs.Prelude.{◌≡◌, ℕ, false, ◌∷◌, ◌≤◌, length, slice_get, Some};
+ghost use Rattle.std.specs.Prelude.{◌≡◌, ℕ, ◌≤◌, length, slice_get, Some};
 ghost use Rattle.meaning.specs.Elements.{elements};
 ghost use Rattle.elements.specs.Reading.{Proper, Level};
 ghost use Rattle.settling.specs.Values.{LeftAt, Table, Ready, FreshE};

@@ -5,7 +5,7 @@ ghost use Rattle.std.specs.Prelude.{◌≡◌, ◌∷◌, [], ◌+◌, ◌≤◌
 ghost use Rattle.meaning.specs.Elements.{body, is_symbol, is_variable};
 ghost use Rattle.kinds.specs.Slots.{slot_of, within, joined};
 
-// The kinds, as document 01's table has them.
+// The kinds, as document 01's table has them: bytes of the format, matched as they stand. The enum of them is `elements::Element`.
 pub const CHARACTER: u8 = 1;
 
 pub const NAME: u8 = 2;

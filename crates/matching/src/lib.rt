@@ -1,5 +1,5 @@
 // Matching: a left side against an argument. Which variables have a value depends only on how far the left side has been read, so a set of slots
-// goes along by value, and nothing has to be undone after a failed try.
+// goes along by value, and nothing has to be undone after a failed try. The table is lent to be written, so it goes beside them: `Values` only reads.
 #![tactic(auto)]
 
 ghost use Rattle.std.specs.Prelude.{◌∷◌, [], ◌-◌, drop};

@@ -1,8 +1,8 @@
 // The elements of a left side one by one: the slot of a variable, where the only value that is possible ends, a value noted. The values go into a
-// lent table of 96 numbers: of a variable's slot, the start of its value in the argument, and 48 further on its end.
+// lent table of 96 numbers: of a variable's slot, the start of its value in the argument, and 48 further on its end. So `match_left` promises it.
 #![tactic(auto)]
 
-ghost use Rattle.std.specs.Prelude.{◌≡◌, ℕ, false, true, ◌-◌, ◌<◌, ◌≤◌, length, get_or, take, drop, MatchOption, IfSome, Some};
+ghost use Rattle.std.specs.Prelude.{◌≡◌, ℕ, false, true, ◌<◌, ◌≤◌, length, MatchOption, IfSome, Some};
 ghost use Rattle.meaning.specs.Elements.{elements};
 ghost use Rattle.elements.specs.Reading.{Proper};
 ghost use Rattle.kinds.specs.Slots.{within, value_of};
@@ -105,7 +105,13 @@ impl<'a> Values<'a> {
 }
 
 // Notes a variable's value, if it has none yet, and answers the settled slots.
-pub fn settle(binds: &mut [usize], settled: Slots, slot: Option<usize>, from: usize, to: usize) -> Slots
+pub fn settle(
+    binds: &mut [usize],
+    settled: Slots,
+    slot: Option<usize>,
+    from: usize,
+    to: usize,
+) -> Slots
     requires { Settling binds.old slot }
     ensures { Settled binds.old settled.bits slot from to binds.new result.bits }
 {

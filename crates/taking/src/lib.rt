@@ -158,7 +158,11 @@ fn test_limits(state: State, kind: u8, new: bool) -> Result<(), Fault>
     if state.part == RIGHT {
         return Err(Fault::Unknown);
     }
-    if state.number < 16 { Ok(()) } else { Err(Fault::TooMany) }
+    if state.number < 16 {
+        Ok(())
+    } else {
+        Err(Fault::TooMany)
+    }
 }
 
 // The tests of an element that can stand, in the order of the definition.
