@@ -42,7 +42,7 @@ end_kind k z =
 
 -- ---- a step without a fault
 module _ (q : State) (k v : ℕ) (st : List ℕ) (R : Ready q st) (known : span 1 15 k ≡ true) (stood : stands (part_of q.part) k ≡ true)
-    (nu : implies (span 8 10 k) (leb v 15) ≡ true) (p : paired k (stack q.depth st) ≡ true) (new : Bool) (en : new ≡ fresh q.set k v)
+    (nu : implies (span 8 10 k) (leb v 15) ≡ true) (p : paired k (stack q.depth st) ≡ true) (new : Bool) (en : new ≡ fresh q.set.bits k v)
     (lim : 0 ≡ first_failing 6 (limits_of q k new)) (to : ℕ) (et : Some to ≡ next_of (part_of q.part) k) where
   good : 0 ≡ first_failing 3 (tests_of q k v (stack q.depth st) new)
   unfolding tests_of
@@ -102,12 +102,12 @@ module _ (q : State) (H : HasRoom q) where
     known = rw (le-leb 1 k low, le-leb k 15 (omega arith))
 
     -- no variable, or one that the side has
-    pub old_steps : implies (span 8 10 k) (leb v 15) ≡ true → (new : Bool) → new ≡ fresh q.set k v → new ≡ false
+    pub old_steps : implies (span 8 10 k) (leb v 15) ≡ true → (new : Bool) → new ≡ fresh q.set.bits k v → new ≡ false
         → (d : ℕ) (st' : List ℕ) (q' : State) → d ≡ depth_after k q.depth → st' ≡ stack_after k q.depth st → q' ≡ moved_to q k v q.part d new
         → Steps q k v st (Ok q') st'
     old_steps nu new en z = good_steps q k v st R known stands_here nu p new en (limits_old q k new room z) q.part (same-part q.part k (side_part q.part H.0) high stands_here)
 
-    pub new_steps : implies (span 8 10 k) (leb v 15) ≡ true → (new : Bool) → new ≡ fresh q.set k v → new ≡ true → (q.part ≡ 4 → ⊥) → q.number < 16
+    pub new_steps : implies (span 8 10 k) (leb v 15) ≡ true → (new : Bool) → new ≡ fresh q.set.bits k v → new ≡ true → (q.part ≡ 4 → ⊥) → q.number < 16
         → (d : ℕ) (st' : List ℕ) (q' : State) → d ≡ depth_after k q.depth → st' ≡ stack_after k q.depth st → q' ≡ moved_to q k v q.part d new
         → Steps q k v st (Ok q') st'
     new_steps nu new en z n f = good_steps q k v st R known stands_here nu p new en (limits_left q k new room z n f) q.part (same-part q.part k (side_part q.part H.0) high stands_here)
@@ -145,7 +145,7 @@ module _ (q : State) (H : HasRoom q) where
 
   -- no variable, or one that the side has
   old_tried : (k v : ℕ) → 1 ≤ k → k ≤ 10 → ((k ≡ 6) ⊎ (k ≡ 7) → q.part ≡ 4) → (st : List ℕ) → Ready q st → paired k (stack q.depth st) ≡ true
-      → implies (span 8 10 k) (leb v 15) ≡ true → {new : Bool} → new ≡ fresh q.set k v → new ≡ false
+      → implies (span 8 10 k) (leb v 15) ≡ true → {new : Bool} → new ≡ fresh q.set.bits k v → new ≡ false
       → (d : ℕ) (st' : List ℕ) → d ≡ depth_after k q.depth → st' ≡ stack_after k q.depth st → Tried q k v st (Some (further q d)) st'
   old_tried k v low high only st R p nu {new} en z d st' ed es =
       let m = moved_old q k v q.part d new (q.count + 1) (counted k high) H.0 z in
@@ -155,7 +155,7 @@ module _ (q : State) (H : HasRoom q) where
       → (d : ℕ) (st' : List ℕ) → d ≡ depth_after k q.depth → st' ≡ stack_after k q.depth st → Tried q k v st (Some (further q d)) st'
   bracket_passed k v low high w st R p =
       let y : span 8 10 k ≡ false = plain k (omega arith) in
-      old_tried k v (omega arith) (omega arith) (only w) st R p (rw y) (fresh_plain q.set k v y) refl
+      old_tried k v (omega arith) (omega arith) (only w) st R p (rw y) (fresh_plain q.set.bits k v y) refl
     where
       only : ((5 < k) × (q.part ≡ 4)) ⊎ (k ≤ 5) → (k ≡ 6) ⊎ (k ≡ 7) → q.part ≡ 4
       only (inl w) e = w.1
@@ -164,7 +164,7 @@ module _ (q : State) (H : HasRoom q) where
 
   -- what is no bracket
   module _ (k v : ℕ) (low : 1 ≤ k) (high : k ≤ 10) (free : 4 ≤ k → k ≤ 7 → ⊥) (st : List ℕ) (R : Ready q st) (nu : implies (span 8 10 k) (leb v 15) ≡ true)
-      {new : Bool} (en : new ≡ fresh q.set k v) where
+      {new : Bool} (en : new ≡ fresh q.set.bits k v) where
     none_of : (i j : ℕ) → (4 ≤ i) × (i ≤ 7) → (4 ≤ j) × (j ≤ 7) → (k ≡ i) ⊎ (k ≡ j) → ⊥
     none_of i j a b = neither k i j (λ e. free (omega arith) (omega arith)) (λ e. free (omega arith) (omega arith))
 
@@ -183,8 +183,8 @@ module _ (q : State) (H : HasRoom q) where
     old_here : new ≡ false → Tried q k v st (Some (further q q.depth)) st
     old_here z = old_tried k v low high anywhere st R pairs nu en z q.depth st still.0 still.1
 
-    new_here : new ≡ true → (q.part ≡ 4 → ⊥) → q.number < 16 → {j slots : ℕ} → j ≡ slot_of k v → slots ≡ joined q.set j
-        → Tried q k v st (Some (record { part = q.part; depth = q.depth; count = q.count + 1; set = slots; number = q.number + 1 })) st
+    new_here : new ≡ true → (q.part ≡ 4 → ⊥) → q.number < 16 → {j slots : ℕ} → j ≡ slot_of k v → slots ≡ joined q.set.bits j
+        → Tried q k v st (Some (record { part = q.part; depth = q.depth; count = q.count + 1; set = record { bits = slots }; number = q.number + 1 })) st
     new_here z n l {j} {slots} f g =
         let m = moved_new q k v q.part q.depth new (q.count + 1) (counted k high) j slots H.0 z f g in
         passes (new_steps q H k v low high anywhere st R pairs nu new en z n l q.depth st _ still.0 still.1 m) refl
@@ -192,9 +192,9 @@ module _ (q : State) (H : HasRoom q) where
   pub symbol_passed : (k v : ℕ) → 1 ≤ k → k ≤ 3 → (st : List ℕ) → Ready q st → Tried q k v st (Some (further q q.depth)) st
   symbol_passed k v low high st R =
       let y : span 8 10 k ≡ false = plain k (omega arith) in
-      old_here k v low (omega arith) (λ a b. omega arith) st R (rw y) (fresh_plain q.set k v y) refl
+      old_here k v low (omega arith) (λ a b. omega arith) st R (rw y) (fresh_plain q.set.bits k v y) refl
 
-  module _ (k v : ℕ) (low : 8 ≤ k) (high : k ≤ 10) (small : v ≤ 15) (st : List ℕ) (R : Ready q st) {new : Bool} (en : new ≡ fresh q.set k v) where
+  module _ (k v : ℕ) (low : 8 ≤ k) (high : k ≤ 10) (small : v ≤ 15) (st : List ℕ) (R : Ready q st) {new : Bool} (en : new ≡ fresh q.set.bits k v) where
     numbered : implies (span 8 10 k) (leb v 15) ≡ true
     unfolding span
     numbered = rw (le-leb 8 k low, le-leb k 10 high, le-leb v 15 small)
@@ -202,8 +202,8 @@ module _ (q : State) (H : HasRoom q) where
     pub old_passed : new ≡ false → Tried q k v st (Some (further q q.depth)) st
     old_passed = old_here k v (omega arith) high (λ a b. omega arith) st R numbered en
 
-    pub new_passed : new ≡ true → (q.part ≡ 4 → ⊥) → q.number < 16 → {j slots : ℕ} → j ≡ slot_of k v → slots ≡ joined q.set j
-        → Tried q k v st (Some (record { part = q.part; depth = q.depth; count = q.count + 1; set = slots; number = q.number + 1 })) st
+    pub new_passed : new ≡ true → (q.part ≡ 4 → ⊥) → q.number < 16 → {j slots : ℕ} → j ≡ slot_of k v → slots ≡ joined q.set.bits j
+        → Tried q k v st (Some (record { part = q.part; depth = q.depth; count = q.count + 1; set = record { bits = slots }; number = q.number + 1 })) st
     new_passed = new_here k v (omega arith) high (λ a b. omega arith) st R numbered en
 
 -- ---- only a variable's number is asked for

@@ -80,7 +80,7 @@ part_stays (at p opens n vs) x = field_stays p (kind x)
 
 -- ---- the state where reading begins
 abbrev begin : State
-begin = record { part = 1; depth = 0; count = 0; set = 0; number = 0 }
+begin = record { part = 1; depth = 0; count = 0; set = record { bits = 0 }; number = 0 }
 
 pub begun : (bs st : List ℕ) → 400 ≤ length st → Reading (bad_program bs) bs 0 begin st
 unfolding bad_program stack part_of
@@ -215,7 +215,7 @@ module _ {found : Option ℕ} {bs st : List ℕ} {i : ℕ} {q : State} (R : Read
       let I : Tells k 0 (bytes_of u) = tells_plain (told_as u (got_number A) (sym eu) refl) y in
       let B = none_moves k q.depth st (neither k 4 6 (omega arith) (omega arith)) (neither k 5 7 (omega arith) (omega arith)) in
       let S : Steps q k 0 st (Ok q') st = good_steps q k 0 st (ready R) kn (stands_yes (part_of q.part) k et) (rw y)
-      (sym (paired_none k q.depth st (neither k 5 7 (omega arith) (omega arith)) d) ∙ eq-eqb q.depth 0 d) false (fresh_plain q.set k 0 y) (limits_old q k false (rw z) refl) to et
+      (sym (paired_none k q.depth st (neither k 5 7 (omega arith) (omega arith)) d) ∙ eq-eqb q.depth 0 d) false (fresh_plain q.set.bits k 0 y) (limits_old q k false (rw z) refl) to et
       0 st q' (sym d ∙ B.0) B.1 eq in
       let m : i + 1 ≡ next = omega (arith, en, ap body ek, b.2) in
       rw m at (turned R A I S refl)

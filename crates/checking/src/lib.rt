@@ -63,7 +63,7 @@ fn pass_variable(mut state: State, kind: u8, number: u32) -> Option<State>
     if 15 < state.number {
         return None;
     }
-    state.set = kinds::with(state.set, kinds::slot(kind, number as u8));
+    state.set = state.set.with(kinds::slot(kind, number as u8));
     state.number += 1;
     Some(state)
 }
@@ -177,7 +177,7 @@ fn pass_program(program: &[u8], stack: &mut [u8]) -> Result<(), usize>
         part: taking::OUTSIDE,
         depth: 0,
         count: 0,
-        set: 0,
+        set: kinds::Slots::NONE,
         number: 0,
     };
     while at.at < program.len() {

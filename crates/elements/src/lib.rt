@@ -1,7 +1,7 @@
 // Elements read off bytes, terms passed over, values compared.
 #![tactic(auto)]
 
-ghost use Rattle.std.specs.Prelude.{◌≡◌, ◌+◌, ◌-◌, ◌^◌, ◌<◌, ◌≤◌, length, get_or, take, drop};
+ghost use Rattle.std.specs.Prelude.{◌≡◌, ◌+◌, ◌^◌, ◌<◌, ◌≤◌, length, get_or, take, drop};
 ghost use Rattle.meaning.specs.Elements.{body, elements};
 ghost use Rattle.elements.specs.Bytes.{kind_of, number_of, digits, Told};
 ghost use Rattle.elements.specs.Reading.{ReadAt, NumberedAt, PassedOver, Level, depth_after, Characters, Shutting, Shut, SymbolEnd, TermEnd};
@@ -175,13 +175,13 @@ impl Cursor {
     }
 
     // Past the characters that end at `to` at the latest, up to one with the code `stop`, if that is a byte. Most elements are
-    // characters: their stride is fixed, so that a processor can run ahead.
+    // characters: their stride is fixed, so that a processor can run ahead. `stop` is no `Option<u8>`, as that would take fewer values.
     pub fn past_characters(self, s: &[u8], stop: u16, to: usize) -> Cursor
         requires { to ≤ length s.now }
         ensures { Characters s.now stop to self.at result.at }
     {
         let last = to.saturating_sub(1);
-        // a `for` would not say where it ended
+        // A `for` would not say where it ended.
         let mut at = self.at;
         while at < last && s[at] == kinds::CHARACTER && s[at + 1] as u16 != stop {
             at += 2;

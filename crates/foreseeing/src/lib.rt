@@ -1,7 +1,7 @@
 // Where an e-variable's value can end, as far as what comes next in the left side says.
 #![tactic(auto)]
 
-ghost use Rattle.std.specs.Prelude.{◌≡◌, ℕ, false, ◌∷◌, ◌≤◌, length, slice_get, Some};
+ghost use Rattle.std.specs.Prelude.{◌≡◌, ℕ, ◌≤◌, length, slice_get, Some};
 ghost use Rattle.meaning.specs.Elements.{elements};
 ghost use Rattle.elements.specs.Reading.{Proper, Level};
 ghost use Rattle.settling.specs.Values.{LeftAt, Table, Ready, FreshE};
@@ -60,8 +60,8 @@ fn before_value(value: &[u8], last: bool, arg: &[u8]) -> Ahead
 
 // Where what comes next is an opening bracket and then left[j..]. In a table of bracketed entries the key stands there.
 fn before_bracket(left: &[u8], j: usize, values: Values) -> Ahead
-    requires { LeftAt left.now j × Table values.arg.now values.binds.now values.settled }
-    ensures { Sound result values.entry.arg.now (Behind left.now j values.entry.arg.now values.entry.binds.now values.entry.settled) }
+    requires { LeftAt left.now j × Table values.arg.now values.binds.now values.settled.bits }
+    ensures { Sound result values.entry.arg.now (Behind left.now j values.entry.arg.now values.entry.binds.now values.entry.settled.bits) }
 {
     let value = values.meant(settling::item_at(left, j)).unwrap_or(&[]);
     Ahead {
@@ -75,8 +75,8 @@ fn before_bracket(left: &[u8], j: usize, values: Values) -> Ahead
 
 // Where the value of the e-variable in the slot `own` can end that is followed by left[j..].
 pub fn foresee(left: &[u8], j: usize, values: Values, at: usize, own: usize) -> Ahead
-    requires { LeftAt left.now j × Ready left.now j values.arg.now at values.binds.now values.settled × FreshE own values.settled }
-    ensures { Sound result values.entry.arg.now (Ending left.now j values.entry.arg.now at values.entry.binds.now values.entry.settled own) }
+    requires { LeftAt left.now j × Ready left.now j values.arg.now at values.binds.now values.settled.bits × FreshE own values.settled.bits }
+    ensures { Sound result values.entry.arg.now (Ending left.now j values.entry.arg.now at values.entry.binds.now values.entry.settled.bits own) }
 {
     let item = settling::item_at(left, j);
     if left[j] == kinds::OPEN {

@@ -1,8 +1,8 @@
--- The word of lengths, read off the table once for all its entries.
+-- The table of lengths, compared with the paper's once for all its entries.
 use mathlib.Core.Path.{◌≡◌}
 use mathlib.Core.Bool.{Bool, true, false, ◌||◌, not}
 use native.Mathlib.Omega.{arith}
-use Prim.Native.Nat.{ℕ, ◌+◌, ◌*◌, ◌/◌, ◌%◌, ◌^◌, ◌≤◌, ◌<◌}
+use Prim.Native.Nat.{ℕ, ◌+◌, ◌≤◌, ◌<◌}
 use lib.Dec.{eqb, leb}
 use lib.ListN.{get_or, get_or-eq_default}
 use borrow.Author.Tests.{eqb-true, lt-leb, leb-true, leb-false}
@@ -10,13 +10,14 @@ use Rattle.meaning.specs.Elements.{body, bodies}
 use Rattle.meaning.specs.Goodness.{span}
 use Rattle.meaning.proofs.Truth.{T_true, never, is_true, is_false, see}
 use Rattle.meaning.proofs.Tables.{table_at}
+use Rattle.kinds.specs.declared.TheConstants.{LENGTHS}
 
-three_bits : ℕ → ℕ → Bool
-three_bits k n = eqb (41311447849681 / 2 ^ (k * 3) % 8) (1 + n)
+one_longer : ℕ → ℕ → Bool
+one_longer k n = eqb (get_or LENGTHS k 0) (1 + n)
 
-pub length-known : (k : ℕ) → k < 16 → 41311447849681 / 2 ^ (k * 3) % 8 ≡ 1 + body k
-unfolding three_bits body
-length-known k h = eqb-true _ _ (T_true _ (table_at three_bits bodies tt k h))
+pub length-known : (k : ℕ) → k < 16 → get_or LENGTHS k 0 ≡ 1 + body k
+unfolding one_longer body
+length-known k h = eqb-true _ _ (T_true _ (table_at one_longer bodies tt k h))
 
 pub body_unknown : (k : ℕ) → 16 ≤ k → body k ≡ 0
 unfolding body

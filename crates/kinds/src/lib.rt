@@ -5,7 +5,7 @@ ghost use Rattle.std.specs.Prelude.{◌≡◌, ◌∷◌, [], ◌+◌, ◌≤◌
 ghost use Rattle.meaning.specs.Elements.{body, is_symbol, is_variable};
 ghost use Rattle.kinds.specs.Slots.{slot_of, within, joined};
 
-// The kinds, as document 01's table has them.
+// The kinds, as document 01's table has them: bytes of the format, matched as they stand. The enum of them is `elements::Element`.
 pub const CHARACTER: u8 = 1;
 
 pub const NAME: u8 = 2;
@@ -45,15 +45,15 @@ pub const SLOTS: usize = 48;
 
 pub const BINDS: usize = 96;
 
-// The table of lengths, three bits for each kind from 00 on: an array would be laid out anew at each read.
-const LENGTHS: u64 = 41311447849681;
+// The lengths of elements, by kind from 00 on.
+static LENGTHS: [u8; 16] = [1, 2, 3, 5, 1, 1, 3, 1, 2, 2, 2, 1, 1, 3, 1, 1];
 
 // The length of an element of kind k: the kind's byte and its body.
 pub fn length_of(k: u8) -> usize
     ensures { (result ≡ 1 + body k) × (result ≤ 5) }
 {
     if k <= PROGRAM_END {
-        ((LENGTHS >> ((k as u32) * 3)) % 8) as usize
+        LENGTHS[k as usize] as usize
     } else {
         1
     }
@@ -76,22 +76,34 @@ pub fn slot(kind: u8, number: u8) -> usize
     requires { (8 ≤ kind) × (kind ≤ 10) × (number ≤ 15) }
     ensures { (result ≡ slot_of kind number) × (result < 48) }
 {
-    ((kind - S_VARIABLE) as usize) * 16 + (number as usize)
+    usize::from(kind - S_VARIABLE) * 16 + usize::from(number)
 }
 
-// Whether a slot is in a set.
-pub fn has(set: u64, slot: usize) -> bool
-    requires { slot < 48 }
-    ensures { result ≡ within set slot }
-{
-    (set >> (slot as u32)) % 2 == 1
+// A set of slots, as the bits of a number.
+#[derive(Clone, Copy, PartialEq, Eq)]
+pub struct Slots {
+    pub bits: u64,
 }
 
-// The set with a slot more.
-pub fn with(set: u64, slot: usize) -> u64
-    requires { slot < 48 }
-    ensures { result ≡ joined set slot }
-{
-    let one: u64 = 1;
-    set | (one << (slot as u32))
+impl Slots {
+    // No slot at all.
+    pub const NONE: Slots = Slots { bits: 0 };
+
+    // Whether a slot is in the set.
+    pub fn has(self, slot: usize) -> bool
+        requires { slot < 48 }
+        ensures { result ≡ within self.bits slot }
+    {
+        (self.bits >> slot) % 2 == 1
+    }
+
+    // The set with a slot more.
+    pub fn with(self, slot: usize) -> Slots
+        requires { slot < 48 }
+        ensures { result.bits ≡ joined self.bits slot }
+    {
+        Slots {
+            bits: self.bits | 1 << slot,
+        }
+    }
 }

@@ -1,5 +1,5 @@
 // Matching: a left side against an argument. Which variables have a value depends only on how far the left side has been read, so a set of slots
-// goes along by value, and nothing has to be undone after a failed try.
+// goes along by value, and nothing has to be undone after a failed try. The table is lent to be written, so it goes beside them: `Values` only reads.
 #![tactic(auto)]
 
 ghost use Rattle.std.specs.Prelude.{◌∷◌, [], ◌-◌, drop};
@@ -8,6 +8,7 @@ ghost use Rattle.meaning.specs.Matching.{seek, fronts, first_of};
 ghost use Rattle.settling.specs.Values.{env_of, FreshE, Ready};
 ghost use Rattle.matching.specs.Binding.{Outcome, Starting, Matched};
 
+use kinds::Slots;
 use settling::Values;
 
 // The rest of a left side, from i on, against the rest of an argument.
@@ -18,10 +19,10 @@ fn match_rest(
     arg: &[u8],
     at: usize,
     binds: &mut [usize],
-    settled: u64,
+    settled: Slots,
 ) -> bool
-    requires { Ready left.now i arg.now at binds.old settled }
-    ensures { Outcome arg.now binds.old settled binds.new (seek (elements (drop i left.now)) (elements (drop at arg.now)) (env_of arg.now binds.old settled)) result }
+    requires { Ready left.now i arg.now at binds.old settled.bits }
+    ensures { Outcome arg.now binds.old settled.bits binds.new (seek (elements (drop i left.now)) (elements (drop at arg.now)) (env_of arg.now binds.old settled.bits)) result }
 {
     let mut here = i;
     let mut place = at;
@@ -54,11 +55,11 @@ fn try_lengths(
     arg: &[u8],
     at: usize,
     binds: &mut [usize],
-    settled: u64,
+    settled: Slots,
     slot: usize,
 ) -> bool
-    requires { Ready left.now j arg.now at binds.old settled × FreshE slot settled }
-    ensures { Outcome arg.now binds.old settled binds.new (first_of (seek (elements (drop j left.now))) (10 ∷ (slot - 32) ∷ []) (env_of arg.now binds.old settled) (fronts (elements (drop at arg.now)) 0)) result }
+    requires { Ready left.now j arg.now at binds.old settled.bits × FreshE slot settled.bits }
+    ensures { Outcome arg.now binds.old settled.bits binds.new (first_of (seek (elements (drop j left.now))) (10 ∷ (slot - 32) ∷ []) (env_of arg.now binds.old settled.bits) (fronts (elements (drop at arg.now)) 0)) result }
 {
     if j == left.len() {
         settling::settle(binds, settled, Some(slot), at, arg.len());
@@ -89,5 +90,5 @@ pub fn match_left(left: &[u8], arg: &[u8], binds: &mut [usize]) -> bool
     requires { Starting left.now arg.now binds.old }
     ensures { Matched (elements left.now) arg.now binds.new result }
 {
-    match_rest(left, 0, arg, 0, binds, 0)
+    match_rest(left, 0, arg, 0, binds, Slots::NONE)
 }

@@ -1,14 +1,15 @@
 // The elements of a left side one by one: the slot of a variable, where the only value that is possible ends, a value noted. The values go into a
-// lent table of 96 numbers: of a variable's slot, the start of its value in the argument, and 48 further on its end.
+// lent table of 96 numbers: of a variable's slot, the start of its value in the argument, and 48 further on its end. So `match_left` promises it.
 #![tactic(auto)]
 
-ghost use Rattle.std.specs.Prelude.{◌≡◌, ℕ, false, true, ◌-◌, ◌<◌, ◌≤◌, length, get_or, take, drop, MatchOption, IfSome, Some};
+ghost use Rattle.std.specs.Prelude.{◌≡◌, ℕ, false, true, ◌<◌, ◌≤◌, length, MatchOption, IfSome, Some};
 ghost use Rattle.meaning.specs.Elements.{elements};
 ghost use Rattle.elements.specs.Reading.{Proper};
 ghost use Rattle.kinds.specs.Slots.{within, value_of};
 ghost use Rattle.settling.specs.Values.{LeftAt, ItemAt, ValueEnd, Placed, Meant, Open, Table, Single, OnlyEnd, Settling, Settled, FreshE};
 
 use elements::Cursor;
+use kinds::Slots;
 
 // An element of a left side: its bytes, its slot if it is a variable, and the place behind it.
 #[derive(Clone, Copy)]
@@ -23,7 +24,7 @@ pub struct Item<'a> {
 pub struct Values<'a> {
     pub arg: &'a [u8],
     pub binds: &'a [usize],
-    pub settled: u64,
+    pub settled: Slots,
 }
 
 // The element of a left side at a place.
@@ -65,10 +66,10 @@ fn value_end(value: &[u8], arg: &[u8], at: usize) -> Option<usize>
 impl<'a> Values<'a> {
     // The value in a slot, if it is settled.
     fn value(self, slot: usize) -> Option<&'a [u8]>
-        requires { Table self.arg.now self.binds.now self.settled × (slot < 48) }
-        ensures { MatchOption result (within self.entry.settled slot ≡ false) (λ v. (within self.entry.settled slot ≡ true) × (v.now ≡ value_of self.entry.arg.now self.entry.binds.now slot)) }
+        requires { Table self.arg.now self.binds.now self.settled.bits × (slot < 48) }
+        ensures { MatchOption result (within self.entry.settled.bits slot ≡ false) (λ v. (within self.entry.settled.bits slot ≡ true) × (v.now ≡ value_of self.entry.arg.now self.entry.binds.now slot)) }
     {
-        if kinds::has(self.settled, slot) {
+        if self.settled.has(slot) {
             let from = self.binds[slot];
             let to = self.binds[slot + kinds::SLOTS];
             Some(&self.arg[from..to])
@@ -79,8 +80,8 @@ impl<'a> Values<'a> {
 
     // What an element stands for, if that is known.
     pub fn meant(self, item: Item<'a>) -> Option<&'a [u8]>
-        requires { Placed item.bytes.now item.slot × Table self.arg.now self.binds.now self.settled }
-        ensures { MatchOption result (Open item.entry.slot self.entry.settled) (λ v. Meant item.entry.bytes.now item.entry.slot self.entry.arg.now self.entry.binds.now self.entry.settled v.now) }
+        requires { Placed item.bytes.now item.slot × Table self.arg.now self.binds.now self.settled.bits }
+        ensures { MatchOption result (Open item.entry.slot self.entry.settled.bits) (λ v. Meant item.entry.bytes.now item.entry.slot self.entry.arg.now self.entry.binds.now self.entry.settled.bits v.now) }
     {
         match item.slot {
             Some(slot) => self.value(slot),
@@ -90,8 +91,8 @@ impl<'a> Values<'a> {
 
     // Past what an element stands for, where only one value is possible: anything but an e-variable without a value.
     pub fn only_end(self, item: Item<'a>, at: usize) -> Option<usize>
-        requires { Single item.bytes.now item.slot self.arg.now at self.binds.now self.settled }
-        ensures { OnlyEnd item.entry.bytes.now self.entry.arg.now at self.entry.binds.now self.entry.settled result }
+        requires { Single item.bytes.now item.slot self.arg.now at self.binds.now self.settled.bits }
+        ensures { OnlyEnd item.entry.bytes.now self.entry.arg.now at self.entry.binds.now self.entry.settled.bits result }
     {
         if let Some(value) = self.meant(item) {
             return value_end(value, self.arg, at);
@@ -104,27 +105,33 @@ impl<'a> Values<'a> {
 }
 
 // Notes a variable's value, if it has none yet, and answers the settled slots.
-pub fn settle(binds: &mut [usize], settled: u64, slot: Option<usize>, from: usize, to: usize) -> u64
+pub fn settle(
+    binds: &mut [usize],
+    settled: Slots,
+    slot: Option<usize>,
+    from: usize,
+    to: usize,
+) -> Slots
     requires { Settling binds.old slot }
-    ensures { Settled binds.old settled slot from to binds.new result }
+    ensures { Settled binds.old settled.bits slot from to binds.new result.bits }
 {
     match slot {
-        Some(slot) if !kinds::has(settled, slot) => {
+        Some(slot) if !settled.has(slot) => {
             binds[slot] = from;
             binds[slot + kinds::SLOTS] = to;
-            kinds::with(settled, slot)
+            settled.with(slot)
         }
         _ => settled,
     }
 }
 
 // The slot of an e-variable without a value.
-pub fn fresh_e(slot: Option<usize>, settled: u64) -> Option<usize>
+pub fn fresh_e(slot: Option<usize>, settled: Slots) -> Option<usize>
     requires { IfSome slot (λ s. s < 48) }
-    ensures { MatchOption result ((s : ℕ) → slot ≡ Some s → FreshE s settled → ⊥) (λ s. (slot ≡ Some s) × FreshE s settled) }
+    ensures { MatchOption result ((s : ℕ) → slot ≡ Some s → FreshE s settled.bits → ⊥) (λ s. (slot ≡ Some s) × FreshE s settled.bits) }
 {
     match slot {
-        Some(slot) if kinds::E_SLOTS <= slot && !kinds::has(settled, slot) => Some(slot),
+        Some(slot) if kinds::E_SLOTS <= slot && !settled.has(slot) => Some(slot),
         _ => None,
     }
 }

@@ -49,7 +49,7 @@ ok_same : {a b : State} {r : Result State Fault} → r ≡ Ok a → r ≡ Ok b �
 ok_same e f = cc
 
 -- the tests found f, 0 or the first that fails; new says whether the element is a fresh variable
-module _ (q : State) (k v : ℕ) (st : List ℕ) (new : Bool) (en : new ≡ fresh q.set k v) (f : ℕ)
+module _ (q : State) (k v : ℕ) (st : List ℕ) (new : Bool) (en : new ≡ fresh q.set.bits k v) (f : ℕ)
     (ef : f ≡ first_failing 3 (tests_of q k v (stack q.depth st) new)) where
   abbrev p : Part
   p = part_of q.part
@@ -70,7 +70,7 @@ module _ (q : State) (k v : ℕ) (st : List ℕ) (new : Bool) (en : new ≡ fres
         ]
 
     new_is : implies (span 8 10 k) (leb v 15) ≡ true → new ≡ (is_variable x && not (among x M.vs))
-    new_is u = en ∙ fresh_is q.set q.number M.vs k v x M.holds I.kind_is I.pair u
+    new_is u = en ∙ fresh_is q.set.bits q.number M.vs k v x M.holds I.kind_is I.pair u
 
     whole : eqb (length x) (suc (body (kind x))) ≡ true
     whole = eq-eqb (length x) (suc (body (kind x))) (rw I.kind_is I.whole_is)
@@ -200,7 +200,7 @@ module _ (q : State) (k v : ℕ) (st : List ℕ) (new : Bool) (en : new ≡ fres
           record {
             vs = variables_after (part_after p k) x M.vs;
             is = rw (M.is, I.kind_is, part_next, opened_after k q.depth st depth_fits);
-            holds = rw (to_is, en) (holds_after q.set q.number M.vs k (v) x M.holds I.kind_is I.pair numbered (part_after p k) (λ z. left_still (en ∙ z)));
+            holds = rw (to_is, en) (holds_after q.set.bits q.number M.vs k (v) x M.holds I.kind_is I.pair numbered (part_after p k) (λ z. left_still (en ∙ z)));
             part = omega (arith, to_is, number_small (part_after p k));
             deep =
                 elim (see (ends_side k)) [

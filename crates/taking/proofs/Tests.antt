@@ -198,7 +198,7 @@ module _ (to k n : ℕ) where
   count_idle e f = rw (e, f)
 
 module _ (q : State) (k v to d : ℕ) (new : Bool) (n : ℕ) (en : n ≡ count_after (part_of to) k q.count) where
-  pub moved_out : span 3 4 to ≡ false → record { part = to; depth = d; count = n; set = 0; number = 0 } ≡ moved_to q k v to d new
+  pub moved_out : span 3 4 to ≡ false → record { part = to; depth = d; count = n; set = record { bits = 0 }; number = 0 } ≡ moved_to q k v to d new
   unfolding moved_to
   moved_out z = rw (en, z)
 
@@ -206,8 +206,8 @@ module _ (q : State) (k v to d : ℕ) (new : Bool) (n : ℕ) (en : n ≡ count_a
   unfolding moved_to
   moved_old z y = rw (en, z, y)
 
-  pub moved_new : (j slots : ℕ) → span 3 4 to ≡ true → new ≡ true → j ≡ slot_of k v → slots ≡ joined q.set j
-      → record { part = to; depth = d; count = n; set = slots; number = q.number + 1 } ≡ moved_to q k v to d new
+  pub moved_new : (j slots : ℕ) → span 3 4 to ≡ true → new ≡ true → j ≡ slot_of k v → slots ≡ joined q.set.bits j
+      → record { part = to; depth = d; count = n; set = record { bits = slots }; number = q.number + 1 } ≡ moved_to q k v to d new
   unfolding moved_to
   moved_new j slots z y f g = rw (en, z, y, g, f)
 

@@ -76,7 +76,7 @@ moved_to q k v to d new =
       part = to;
       depth = d;
       count = count_after (part_of to) k q.count;
-      set = cond (span 3 4 to) (cond new (joined q.set (slot_of k v)) q.set) 0;
+      set = record { bits = cond (span 3 4 to) (cond new (joined q.set.bits (slot_of k v)) q.set.bits) 0 };
       number = cond (span 3 4 to) (cond new (q.number + 1) q.number) 0;
     }
 
@@ -90,7 +90,7 @@ pub record Holds (slots number : ℕ) (vs : List Element) : Type 0 where
 pub record Means (q : State) (st : List ℕ) (s : Stage) : Type 0 where
   pub vs : List Element
   pub is : s ≡ at (part_of q.part) (stack q.depth st) q.count vs
-  pub holds : Holds q.set q.number vs
+  pub holds : Holds q.set.bits q.number vs
   pub part : q.part < 7
   -- each open bracket is an element of the side, so none is open outside of sides
   pub deep : q.depth ≤ cond (sided (part_of q.part)) q.count 0

@@ -9,6 +9,7 @@ ghost use Rattle.elements.specs.Bytes.{kind_of, number_of};
 ghost use Rattle.taking.specs.Standing.{part_of, next_of, fault_of, stack_after, depth_after, fresh, limits_of, tests_of, Movable, moved_to, Ready, Steps};
 
 use elements::Element;
+use kinds::Slots;
 
 // Where reading stands: the part, the open brackets, the elements of this side so far, and the left side's variables, as a set and their number.
 // Each is a whole word: with a byte among them the compiler copies the state piece by piece, and a check takes seven times as long.
@@ -17,7 +18,7 @@ pub struct State {
     pub part: usize,
     pub depth: usize,
     pub count: usize,
-    pub set: u64,
+    pub set: Slots,
     pub number: usize,
 }
 
@@ -132,8 +133,8 @@ fn is_numbered(kind: u8, number: u32) -> bool
 }
 
 // A variable that has not stood on the left side so far.
-pub fn is_fresh(set: u64, kind: u8, number: u32) -> bool
-    ensures { result ≡ fresh set kind number }
+pub fn is_fresh(set: Slots, kind: u8, number: u32) -> bool
+    ensures { result ≡ fresh set.bits kind number }
 {
     if !kinds::is_variable(kind) {
         return false;
@@ -141,7 +142,7 @@ pub fn is_fresh(set: u64, kind: u8, number: u32) -> bool
     if 15 < number {
         return false;
     }
-    !kinds::has(set, kinds::slot(kind, number as u8))
+    !set.has(kinds::slot(kind, number as u8))
 }
 
 // The last two tests: the limits, and that the left side has the variable.
@@ -157,7 +158,11 @@ fn test_limits(state: State, kind: u8, new: bool) -> Result<(), Fault>
     if state.part == RIGHT {
         return Err(Fault::Unknown);
     }
-    if state.number < 16 { Ok(()) } else { Err(Fault::TooMany) }
+    if state.number < 16 {
+        Ok(())
+    } else {
+        Err(Fault::TooMany)
+    }
 }
 
 // The tests of an element that can stand, in the order of the definition.
@@ -221,12 +226,12 @@ pub fn state_after(
     state.depth = depth;
     state.count = count_after(to, kind, state.count);
     if !between(LEFT, RIGHT, to) {
-        state.set = 0;
+        state.set = Slots::NONE;
         state.number = 0;
         return state;
     }
     if new {
-        state.set = kinds::with(state.set, kinds::slot(kind, number as u8));
+        state.set = state.set.with(kinds::slot(kind, number as u8));
         state.number += 1;
     }
     state

@@ -30,4 +30,4 @@ pub returns : goal.returns
 returns c =
     λ st R. new_passed c.args.state c.requires.0 _ _ c.requires.1 c.requires.2 c.if-number-gt15.false st R
     c.is_fresh.ensures (c.if-not-is_fresh.false) c.if-state-eq-RIGHT.false (omega arith) c.slot.ensures.0
-    c.with.ensures
+    c.with-state.ensures

@@ -24,5 +24,5 @@ returns c =
     let k = c.pass-passed.ensures.kind_is in
     rw (item_bytes c.requires q) (elim c.if-passed-lt-S_VARIABLE.branch [
       | then-passed-lt-S_VARIABLE w ↦ rw w.slot-is (item_fixed c.requires (omega (arith, k, w.if-passed-lt-S_VARIABLE.true)) q)
-      | else-passed-lt-S_VARIABLE w ↦ rw w.slot-is (item_named c.requires (omega (arith, k, w.if-passed-lt-S_VARIABLE.false)) q (rw k at w.slot.ensures.0))
+      | else-passed-lt-S_VARIABLE w ↦ rw w.slot-is (item_named c.requires (omega (arith, k, w.if-passed-lt-S_VARIABLE.false)) q (omega (arith, k, w.slot.ensures.0)))
     ])

@@ -19,7 +19,7 @@ overflow_add-state c = omega (arith, c.requires.1 c.if-new.true)
 pub returns-then-new : goal.returns-then-new
 returns-then-new c =
     moved_new _ _ _ _ _ _ _ c.count_after.ensures _ _ (told c.between.ensures c.if-not-between.false)
-    c.if-new.true c.slot.ensures.0 c.with.ensures
+    c.if-new.true c.slot.ensures.0 c.with-state.ensures
 
 pub returns-else-new : goal.returns-else-new
 returns-else-new c =

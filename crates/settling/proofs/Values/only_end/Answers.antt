@@ -20,7 +20,7 @@ returns-in-Some-slot c =
 
 pub returns-in_default-slot : goal.returns-in_default-slot
 returns-in_default-slot c =
-    let o : Open c.args.item.slot c.args.self.settled = rw c.in_default.is at c.meant.ensures in
+    let o : Open c.args.item.slot c.args.self.settled.bits = rw c.in_default.is at c.meant.ensures in
     let far : 16 ≤ o.s = elim c.in_default-slot.branch [
       | in_default-slot-via-in-Some-slot+else-slot-lt-T_SLOTS w ↦ (let e : w.in-Some-slot.slot ≡ o.s = cc (w.in-Some-slot.is, o.is) in omega (arith, w.if-slot-lt-T_SLOTS.false))
       | in_default-slot-via-in_default-slot w ↦ never (cc (w.in_default-slot.is, o.is))

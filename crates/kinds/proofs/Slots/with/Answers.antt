@@ -1,6 +1,6 @@
 use Rattle.kinds.specs.Slots.{joined}
 use Rattle.kinds.proofs.Sets.{one_shifted}
-use Rattle.kinds.proofs.with.Goals as goal
+use Rattle.kinds.proofs.Slots.with.Goals as goal
 
 pub returns : goal.returns
 unfolding joined

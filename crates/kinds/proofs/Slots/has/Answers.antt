@@ -1,6 +1,6 @@
 use mathlib.Core.Path.{refl}
 use Rattle.kinds.specs.Slots.{within}
-use Rattle.kinds.proofs.has.Goals as goal
+use Rattle.kinds.proofs.Slots.has.Goals as goal
 
 pub returns : goal.returns
 unfolding within
