@@ -1,4 +1,5 @@
-// Builds a right side with the values of its variables, in the place of the leading term.
+// Builds a right side with the values of its variables, in the place of the leading term. A walk over a side goes by the length that each
+// element has from its kind: it counts no index, and an iterator of our own would be no plainer.
 #![tactic(auto)]
 
 ghost use Rattle.std.specs.Prelude.{◌≡◌, true, cond, ◌⊎◌, List, [], ◌∷◌, ◌++◌, ℕ, ◌+◌, ◌-◌, ◌≤◌, ◌<◌, length, take, drop, set};

@@ -101,7 +101,7 @@ fn steps_from(
     let mut s = begin(field, size, calls.len());
     let mut steps: u32 = 0;
     loop {
-        let mark = scanning::advance(field, s, calls);
+        let mark = s.advance(field, calls);
         s = mark.spread;
         let Some(at) = mark.at else {
             return halted(End::Done, steps, 0, s.lo, s.hi);

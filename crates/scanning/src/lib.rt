@@ -48,69 +48,74 @@ fn next_bracket(field: &[u8], at: usize) -> usize
     c.at
 }
 
-// The next call bracket, from the notes or, where these are used up, read off the field.
-fn next_mark(field: &[u8], mut s: Spread, calls: &[u16]) -> Mark
-    requires good { Good field.now s.lo s.hi }
-    requires roomy { Roomy field.now calls.now }
-    requires standing { Stands field.now s calls.now }
-    ensures { (result.spread.lo ≡ s.lo) × (result.spread.hi ≡ s.hi) × (result.spread.depth ≡ s.depth) × Next field.now s.lo s.hi calls.now result.at result.spread.read s.depth result.spread.top }
-{
-    if let Some(at) = calls.get(s.top) {
-        s.top += 1;
-        return Mark {
-            at: Some(*at as usize),
-            spread: s,
-        };
-    }
-    let at = next_bracket(field, s.read);
-    if at == field.len() {
-        return Mark {
-            at: None,
-            spread: s,
-        };
-    }
-    let c = Cursor { at };
-    let passed = c.pass(field);
-    s.read = passed.next.at;
-    Mark {
-        at: Some(at),
-        spread: s,
-    }
-}
-
-// Brings all up to the < at `at` before the gap, and notes the call as open.
-fn pass_call(field: &mut [u8], mut s: Spread, at: usize, calls: &mut [u16]) -> Spread
-    requires good { Good field.old s.lo s.hi }
-    requires roomy { Roomy field.old calls.old }
-    requires reached { Reaches field.old s at calls.old × (get_or field.old at 0 ≡ 6) }
-    ensures { Good field.new result.lo result.hi × (field_at field.new result.lo result.hi ≡ field_at field.old s.lo s.hi) × (s.hi < result.hi) × Stands field.new result calls.new }
-{
-    let n = at + 3 - s.hi;
-    let depth = s.depth;
-    moving::shift(field, s.hi, s.lo, n);
-    calls[depth] = (s.lo + n - 3) as u16;
-    s.lo = s.lo + n;
-    s.hi = s.hi + n;
-    s.depth = depth + 1;
-    s
-}
-
-// On to the first >: every < before it is opened.
-pub fn advance(field: &mut [u8], spread: Spread, calls: &mut [u16]) -> Mark
-    requires good { Good field.old spread.lo spread.hi }
-    requires roomy { Roomy field.old calls.old }
-    requires standing { Stands field.old spread calls.old }
-    ensures { Advanced field.old spread.lo spread.hi field.new result.spread.lo result.spread.hi calls.new result.at result.spread.read result.spread.depth result.spread.top }
-{
-    let mut s = spread;
-    loop {
-        let mark = next_mark(field, s, calls);
-        let Some(at) = mark.at else {
-            return mark;
-        };
-        if field[at] == kinds::RETURN {
-            return mark;
+impl Spread {
+    // The next call bracket, from the notes or, where these are used up, read off the field.
+    fn next_mark(self, field: &[u8], calls: &[u16]) -> Mark
+        requires good { Good field.now self.lo self.hi }
+        requires roomy { Roomy field.now calls.now }
+        requires standing { Stands field.now self calls.now }
+        ensures { (result.spread.lo ≡ self.lo) × (result.spread.hi ≡ self.hi) × (result.spread.depth ≡ self.depth) × Next field.now self.lo self.hi calls.now result.at result.spread.read self.depth result.spread.top }
+    {
+        let mut s = self;
+        if let Some(at) = calls.get(s.top) {
+            s.top += 1;
+            return Mark {
+                at: Some(*at as usize),
+                spread: s,
+            };
         }
-        s = pass_call(field, mark.spread, at, calls);
+        let at = next_bracket(field, s.read);
+        if at == field.len() {
+            return Mark {
+                at: None,
+                spread: s,
+            };
+        }
+        let c = Cursor { at };
+        let passed = c.pass(field);
+        s.read = passed.next.at;
+        Mark {
+            at: Some(at),
+            spread: s,
+        }
+    }
+
+    // Brings all up to the < at `at` before the gap, and notes the call as open.
+    fn pass_call(self, field: &mut [u8], at: usize, calls: &mut [u16]) -> Spread
+        requires good { Good field.old self.lo self.hi }
+        requires roomy { Roomy field.old calls.old }
+        requires reached { Reaches field.old self at calls.old × (get_or field.old at 0 ≡ 6) }
+        ensures { Good field.new result.lo result.hi × (field_at field.new result.lo result.hi ≡ field_at field.old self.lo self.hi) × (self.hi < result.hi) × Stands field.new result calls.new }
+    {
+        let mut s = self;
+        let n = at + 3 - s.hi;
+        let depth = s.depth;
+        moving::shift(field, s.hi, s.lo, n);
+        calls[depth] = (s.lo + n - 3) as u16;
+        s.lo = s.lo + n;
+        s.hi = s.hi + n;
+        s.depth = depth + 1;
+        s
+    }
+
+    // On to the first >: every < before it is opened.
+    pub fn advance(self, field: &mut [u8], calls: &mut [u16]) -> Mark
+        requires good { Good field.old self.lo self.hi }
+        requires roomy { Roomy field.old calls.old }
+        requires standing { Stands field.old self calls.old }
+        ensures { Advanced field.old self.lo self.hi field.new result.spread.lo result.spread.hi calls.new result.at result.spread.read result.spread.depth result.spread.top }
+    {
+        let mut s = self;
+        loop {
+            let mark = s.next_mark(field, calls);
+            let Some(at) = mark.at else {
+                return mark;
+            };
+            if field[at] == kinds::RETURN {
+                return mark;
+            }
+            let reached = mark.spread;
+            s = reached.pass_call(field, at, calls);
+        }
     }
 }

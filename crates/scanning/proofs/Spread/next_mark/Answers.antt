@@ -2,7 +2,7 @@ use native.Mathlib.Omega.{arith}
 use Rattle.scanning.proofs.Scan.{may_read, from_notes, at_most, none_left, read_on, none_some, some_none, found_at}
 use mathlib.Core.Path.{refl, sym}
 use borrow.Author.Tests.{ltb-false}
-use Rattle.scanning.proofs.next_mark.Goals as goal
+use Rattle.scanning.proofs.Spread.next_mark.Goals as goal
 
 pub returns-in-Some : goal.returns-in-Some
 returns-in-Some c =

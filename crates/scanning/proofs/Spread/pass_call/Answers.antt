@@ -1,7 +1,7 @@
 use native.Mathlib.Omega.{arith}
 use Rattle.scanning.proofs.Scan.{may_move, may_note, in_notes, open_same, open_more, open_good, open_standing}
 use mathlib.Core.Path.{refl}
-use Rattle.scanning.proofs.pass_call.Goals as goal
+use Rattle.scanning.proofs.Spread.pass_call.Goals as goal
 
 pub shift-requires : goal.shift-requires
 shift-requires c =

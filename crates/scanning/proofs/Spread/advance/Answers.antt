@@ -2,7 +2,7 @@ use Rattle.scanning.proofs.Scan.{found_at, advanced, reached_open, in_field}
 use mathlib.Core.Path.{◌≡◌, refl, sym, ◌∙◌}
 use lib.ListN.{get_or}
 use native.Mathlib.Omega.{arith}
-use Rattle.scanning.proofs.advance.Goals as goal
+use Rattle.scanning.proofs.Spread.advance.Goals as goal
 
 pub loop-at-init : goal.loop-at-init
 loop-at-init c = record { good = c.requires.good; same = refl; standing = c.requires.standing; long = refl; room = refl }
