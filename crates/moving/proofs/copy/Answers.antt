@@ -1,6 +1,6 @@
-use Rattle.std.proofs.Common.{◌∙◌, ◌+◌, ◌<◌, length, drop, arith, length-drop}
-use lib.ListN.{length-set}
-use lib.Seq.{get_or-drop}
+use Rattle.std.proofs.Common.{◌∙◌, sym, ap, ℕ, List, ◌+◌, ◌<◌, length, drop, arith, length-drop}
+use lib.ListN.{set, length-set}
+use lib.Seq.{paste, get_or-drop}
 use Rattle.std.proofs.lemmas.List.Edits.{paste_more}
 use Rattle.moving.proofs.copy.Goals as goal
 
@@ -10,4 +10,7 @@ loop-i-preserved c =
     let t = c.loop-i-test.true in
     let h : c.args.at + c.loop-i.i < length c.args.dst.now = omega (arith, c.requires.n_in_bounds_2) in
     let k : c.loop-i.i < length (drop c.args.from c.args.src.now) = simp length-drop (omega (arith, c.requires.n_in_bounds)) in
-    (length-set c.loop-i.dst _ _ ∙ long, rw (so, ← get_or-drop c.args.from c.args.src.now c.loop-i.i 0) (paste_more _ _ _ _ 0 h k))
+    let d : List ℕ = paste c.args.dst.now c.args.at (drop c.args.from c.args.src.now) c.loop-i.i in (
+      length-set c.loop-i.dst _ _ ∙ long,
+      rw so (ap (λ v. set d (c.args.at + c.loop-i.i) v) (sym (get_or-drop c.args.from c.args.src.now c.loop-i.i 0)) ∙ paste_more _ _ _ _ 0 h k),
+    )
