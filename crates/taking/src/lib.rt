@@ -12,7 +12,7 @@ use elements::Element;
 use kinds::Slots;
 
 // Where reading stands: the part, the open brackets, the elements of this side so far, and the left side's variables, as a set and their number.
-// Each is a whole word: with a byte among them the compiler copies the state piece by piece, and a check takes seven times as long.
+// Each is a whole word: with an enum for the part the compiler copies the state piece by piece, and a check takes up to five times as long.
 #[derive(Clone, Copy)]
 pub struct State {
     pub part: usize,
@@ -38,7 +38,7 @@ pub enum Fault {
     Unknown,
 }
 
-// The parts that the code names, by their place in the definition.
+// The parts that the code names, by their place in the definition: numbers, as the state needs.
 pub const FIELD: usize = 0;
 
 pub const OUTSIDE: usize = 1;
