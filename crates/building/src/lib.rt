@@ -16,7 +16,8 @@ pub struct Side {
     pub to: usize,
 }
 
-// What a right side that fits will be: its length, its call brackets, and where the longest of its values stands in the program.
+// What a right side that fits will be: its length, its call brackets, and where the longest of its values stands in the program, or the
+// side's end, as Pivot has it.
 #[derive(Clone, Copy)]
 pub struct Extent {
     pub size: usize,

@@ -18,6 +18,7 @@ pub const SPOTS: usize = 8192;
 
 // A table of a program's functions, filled as far as it was needed: up to where the program is read, and in each place one more than where
 // the header begins that came first to it, or 0.
+// What it holds is a clause, Cache, and no ghost field: such a field's fact has one proof at most, and Cache is proved by data.
 #[derive(Drop)]
 pub struct Index {
     pub read: usize,
