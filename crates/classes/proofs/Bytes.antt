@@ -1,5 +1,5 @@
 -- The table of classes, and the spelling of a byte by its class.
-use mathlib.Core.Path.{◌≡◌, refl, sym}
+use mathlib.Core.Path.{◌≡◌, sym}
 use mathlib.Core.Logic.{◌⊎◌, inl, inr}
 use mathlib.Core.Bool.{Bool, true, false, not}
 use Prim.Native.Nat.{ℕ, ◌+◌, ◌<◌}
@@ -12,7 +12,7 @@ use Rattle.meaning.proofs.Truth.{T_true}
 use Rattle.meaning.proofs.Tables.{every, table_at}
 use Rattle.text.specs.Classes.{class_of, of}
 use Rattle.classes.specs.Table.{number_of, Classes, spelling}
-use Rattle.classes.specs.declared.Class.TheVariants.{Other, Blank, Slash, Capital, Small, Typed, Digit, Dash, Quote, Sign, Call, Star, LineEnd}
+use Rattle.classes.specs.declared.Class.TheVariants.{Other, Small, Typed, Digit}
 use Rattle.classes.specs.declared.Class.{Class}
 use Rattle.classes.specs.declared.TheConstants.{CLASSES}
 

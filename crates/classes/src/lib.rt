@@ -64,7 +64,6 @@ pub fn spelling_of(b: u8) -> u8
 
 // Where the longest run of bytes of the classes lo to hi ends that begins at from.
 pub fn run_end(s: &[u8], from: usize, lo: Class, hi: Class) -> usize
-    requires { length s.now ≤ 65536 }
     ensures { result ≡ from + length (front (of (number_of lo) (number_of hi)) (drop from s.now)) }
 {
     for i in from..s.len() {

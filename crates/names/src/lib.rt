@@ -23,7 +23,8 @@ pub struct Entry {
     pub link: u16,
 }
 
-// The names of a text so far, and for each bucket of their spellings one more than the number of the latest name, or 0.
+// The names of a text so far, and for each bucket of their spellings one more than the number of the latest name, or 0. A place of a
+// text this short fits an entry.
 #[derive(Drop)]
 pub struct Names<'a> {
     pub text: &'a [u8],
@@ -46,8 +47,7 @@ fn spelled(text: &[u8], i: usize) -> u8
 
 // Whether the names that begin at a and b are one.
 fn same_name(text: &[u8], a: usize, b: usize) -> bool
-    requires short { length text.now ≤ 65536 }
-    requires a_in_bounds { (a < length text.now) × (b < length text.now) }
+    requires { (a < length text.now) × (b < length text.now) }
     ensures { result ≡ same (key_at text.now a) (key_at text.now b) }
 {
     if text[a] != text[b] {

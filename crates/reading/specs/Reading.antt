@@ -25,7 +25,7 @@ with_counts q n m = record { phase = q.phase; names = n; variables = m; state = 
 
 -- before the first token
 unfoldable pub begun : Reader
-begun = record { phase = Free; names = 0; variables = 0; state = record { part = 1; depth = 0; count = 0; set = 0; number = 0 }; len = 0 }
+begun = record { phase = Free; names = 0; variables = 0; state = record { part = 1; depth = 0; count = 0; set = record { bits = 0 }; number = 0 }; len = 0 }
 
 abbrev pub gaps : Token → Bool
 gaps T.Gap = true

@@ -2,7 +2,7 @@
 // the places at, at + 1 and at + 2.
 #![tactic(auto)]
 
-ghost use Rattle.std.specs.Prelude.{◌≡◌, true, false, ◌||◌, ◌+◌, ◌*◌, ◌-◌, ◌≤◌, ◌<◌, length, get_or, drop};
+ghost use Rattle.std.specs.Prelude.{◌≡◌, true, false, ◌||◌, ◌+◌, ◌*◌, ◌-◌, ◌^◌, ◌≤◌, ◌<◌, length, get_or, drop};
 ghost use Rattle.meaning.specs.Goodness.{span};
 ghost use Rattle.text.specs.Classes.{is_digit};
 ghost use Rattle.text.specs.Tokens.{identifier, as_name, as_call, real, apart, indexed, quoted, as_string, commented, slashed as slashed_of};
@@ -40,7 +40,7 @@ fn spanning(token: Token, end: usize) -> Lexeme
 
 // A token that ends there; a malformed one where it has no end.
 fn ending(at: usize, token: Token, end: Option<usize>) -> Lexeme
-    requires { at < 65536 }
+    requires { at + 1 < 2 ^ 64 }
     ensures { result ≡ ended at token end }
 {
     match end {
@@ -51,7 +51,7 @@ fn ending(at: usize, token: Token, end: Option<usize>) -> Lexeme
 
 // Where the identifier ends that begins at `at`.
 fn identifier_end(s: &[u8], at: usize) -> Option<usize>
-    requires { (length s.now ≤ 65536) × (at ≤ length s.now) }
+    requires { at ≤ length s.now }
     ensures { result ≡ past_name at (identifier (drop at s.now)) }
 {
     if s.len() <= at || classes::class_of(s[at]) != Class::Capital {
@@ -62,7 +62,7 @@ fn identifier_end(s: &[u8], at: usize) -> Option<usize>
 }
 
 fn name(s: &[u8], at: usize) -> Lexeme
-    requires { (length s.now ≤ 65536) × (at < length s.now) }
+    requires { at < length s.now }
     ensures { Tells s.now at result (as_name (identifier (drop at s.now))) }
 {
     ending(at, Token::Name, identifier_end(s, at))
@@ -70,7 +70,7 @@ fn name(s: &[u8], at: usize) -> Lexeme
 
 // A call has its identifier right behind the bracket.
 fn call(s: &[u8], at: usize) -> Lexeme
-    requires { (length s.now ≤ 65536) × (at < length s.now) }
+    requires { at < length s.now }
     ensures { Tells s.now at result (as_call (identifier (drop (at + 1) s.now))) }
 {
     ending(at, Token::Call, identifier_end(s, at + 1))
@@ -85,7 +85,6 @@ struct Closed {
 
 // The string whose first byte after the opening quote q stands at `at`.
 fn quoted_from(s: &[u8], at: usize, q: u8) -> Option<Closed>
-    requires { length s.now ≤ 65536 }
     ensures { result ≡ closed_at at 0 (quoted q false (drop at s.now)) }
 {
     let mut characters: usize = 0;
@@ -115,7 +114,7 @@ fn quoted_from(s: &[u8], at: usize, q: u8) -> Option<Closed>
 }
 
 fn string(s: &[u8], at: usize) -> Lexeme
-    requires { (length s.now ≤ 65536) × (at < length s.now) }
+    requires { at < length s.now }
     ensures { Tells s.now at result (as_string (quoted (get_or s.now at 0) false (drop (at + 1) s.now))) }
 {
     match quoted_from(s, at + 1, s[at]) {
@@ -147,7 +146,6 @@ struct Sum {
 }
 
 fn sum_up(s: &[u8], at: usize) -> Sum
-    requires { length s.now ≤ 65536 }
     ensures { Sums s.now at result.end result.value }
 {
     let mut value = 0;
@@ -166,7 +164,6 @@ fn sum_up(s: &[u8], at: usize) -> Sum
 
 // Whether what stands at `at`, behind digits, makes a real number of them.
 fn is_real(s: &[u8], at: usize) -> bool
-    requires { length s.now ≤ 65536 }
     ensures { result ≡ real (drop at s.now) }
 {
     if s.len() <= at || s.len() <= at + 1 {
@@ -176,7 +173,7 @@ fn is_real(s: &[u8], at: usize) -> bool
 }
 
 fn number(s: &[u8], at: usize) -> Lexeme
-    requires { (length s.now ≤ 65536) × (at < length s.now) × (is_digit (get_or s.now at 0) ≡ true) }
+    requires { (at < length s.now) × (is_digit (get_or s.now at 0) ≡ true) }
     ensures { Tells s.now at result (number_at s.now at) }
 {
     let Sum { end, value } = sum_up(s, at);
@@ -188,7 +185,6 @@ fn number(s: &[u8], at: usize) -> Lexeme
 
 // Where the comment ends whose first byte behind slash and star stands at `at`.
 fn comment_end(s: &[u8], at: usize) -> Option<usize>
-    requires { length s.now ≤ 65536 }
     ensures { result ≡ past_at at (commented false (drop at s.now)) }
 {
     let mut held = false;
@@ -203,7 +199,7 @@ fn comment_end(s: &[u8], at: usize) -> Option<usize>
 }
 
 fn slashed(s: &[u8], at: usize) -> Lexeme
-    requires { (length s.now ≤ 65536) × (at < length s.now) }
+    requires { at < length s.now }
     ensures { Tells s.now at result (slashed_of (drop (at + 1) s.now)) }
 {
     if s.len() <= at + 1 || s[at + 1] != b'*' {
@@ -213,7 +209,7 @@ fn slashed(s: &[u8], at: usize) -> Lexeme
 }
 
 fn starts_line(s: &[u8], at: usize) -> bool
-    requires { (at < length s.now) }
+    requires { at < length s.now }
     ensures { result ≡ column_at s.now at }
 {
     at == 0 || classes::class_of(s[at - 1]) == Class::LineEnd
@@ -221,7 +217,7 @@ fn starts_line(s: &[u8], at: usize) -> bool
 
 // A star in the first column begins a comment up to the line's end.
 fn starred(s: &[u8], at: usize) -> Lexeme
-    requires { (length s.now ≤ 65536) × (at < length s.now) }
+    requires { at < length s.now }
     ensures { Tells s.now at result (starred_at s.now at) }
 {
     if starts_line(s, at) {
@@ -233,7 +229,7 @@ fn starred(s: &[u8], at: usize) -> Lexeme
 
 // Behind the zeros that begin a number, but for its last digit.
 fn past_zeros(s: &[u8], start: usize, end: usize) -> usize
-    requires { (start < end) × (end ≤ length s.now) × (length s.now ≤ 65536) }
+    requires { (start < end) × (end ≤ length s.now) }
     ensures { Trimmed s.now start end result }
 {
     for i in start..end - 1 {
@@ -252,7 +248,7 @@ fn is_letter(class: Class) -> bool
 
 // The index behind a variable's dot: a number, or an identifier whose first letter is in either case.
 fn dotted(s: &[u8], at: usize) -> Lexeme
-    requires { (length s.now ≤ 65536) × (at + 1 < length s.now) }
+    requires { at + 1 < length s.now }
     ensures { Tells s.now at result (dotted_at s.now at) }
 {
     let malformed = spanning(Token::Malformed, at + 1);
@@ -276,7 +272,6 @@ fn dotted(s: &[u8], at: usize) -> Lexeme
 
 // Nothing of an identifier follows at once, but another variable may.
 fn is_apart(s: &[u8], at: usize) -> bool
-    requires { length s.now ≤ 65536 }
     ensures { result ≡ apart (drop at s.now) }
 {
     s.len() <= at
@@ -294,7 +289,7 @@ fn is_index(class: Class) -> bool
 
 // A variable has its index behind a dot, or it is one capital or digit.
 fn variable(s: &[u8], at: usize) -> Lexeme
-    requires { (length s.now ≤ 65536) × (at < length s.now) }
+    requires { at < length s.now }
     ensures { Tells s.now at result (indexed (get_or s.now at 0) (drop (at + 1) s.now)) }
 {
     let malformed = spanning(Token::Malformed, at + 1);
@@ -312,7 +307,7 @@ fn variable(s: &[u8], at: usize) -> Lexeme
 
 // What begins at a place, by the class of its byte.
 pub fn lex(s: &[u8], at: usize) -> Lexeme
-    requires { (length s.now ≤ 65536) × (at < length s.now) }
+    requires { at < length s.now }
     ensures { Tells s.now at result (lex_at s.now at) }
 {
     match classes::class_of(s[at]) {

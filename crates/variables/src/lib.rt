@@ -15,7 +15,8 @@ pub struct Entry {
     pub size: u16,
 }
 
-// The variables of a sentence of a text so far; 48 are good, and one more is met before it is found bad.
+// The variables of a sentence of a text so far; 48 are good, and one more is met before it is found bad. A place of a text this short
+// fits an entry.
 #[derive(Drop)]
 pub struct Variables<'a> {
     pub text: &'a [u8],
@@ -27,8 +28,7 @@ pub struct Variables<'a> {
 
 // Whether the n bytes from a on and the m bytes from b on are spelt alike.
 fn same_part(text: &[u8], a: usize, n: usize, b: usize, m: usize) -> bool
-    requires short { length text.now ≤ 65536 }
-    requires n_in_bounds { (a + n ≤ length text.now) × (b + m ≤ length text.now) }
+    requires { (a + n ≤ length text.now) × (b + m ≤ length text.now) }
     ensures { result ≡ same (part text.now a n) (part text.now b m) }
 {
     if n != m {

@@ -15,7 +15,6 @@ past_zeros-first-requires c =
     let e = c.run_end-end.ensures in (
       omega (arith, e, c.if-end-start.false),
       omega (arith, e, run_most in_name c.args.s.now (c.args.at + 2) (omega arith)),
-      c.requires.0,
     )
 
 pub returns-then-run_end-end : goal.returns-then-run_end-end

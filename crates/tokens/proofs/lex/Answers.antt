@@ -6,7 +6,7 @@ use Rattle.tokens.proofs.Lexing.{tells_wrong, tells_as, one_byte, lex_gap, lex_s
 use Rattle.tokens.proofs.lex.Goals as goal
 
 pub number-requires : goal.number-requires
-number-requires c = (c.requires.0, c.requires.1, of_eq 6 _ 6 c.in-Digit.ensures refl)
+number-requires c = (c.requires, of_eq 6 _ 6 c.in-Digit.ensures refl)
 
 pub returns-in-Blank : goal.returns-in-Blank
 unfolding lexeme_of token_of
@@ -16,13 +16,13 @@ pub returns-in-Slash : goal.returns-in-Slash
 returns-in-Slash c = tells_as (lex_slash _ _ 2 c.in-Slash.ensures refl) c.slashed.ensures
 
 pub returns-in-Capital : goal.returns-in-Capital
-returns-in-Capital c = tells_as (lex_name _ _ 3 c.in-Capital.ensures refl c.requires.1) c.name.ensures
+returns-in-Capital c = tells_as (lex_name _ _ 3 c.in-Capital.ensures refl c.requires) c.name.ensures
 
 pub returns-in-Typed : goal.returns-in-Typed
 returns-in-Typed c = tells_as (lex_variable _ _ 5 c.in-Typed.ensures refl) c.variable.ensures
 
 pub returns-in-Digit : goal.returns-in-Digit
-returns-in-Digit c = tells_as (lex-number _ _ 6 c.in-Digit.ensures refl c.requires.1) c.number.ensures
+returns-in-Digit c = tells_as (lex-number _ _ 6 c.in-Digit.ensures refl c.requires) c.number.ensures
 
 pub returns-in-Quote : goal.returns-in-Quote
 returns-in-Quote c = tells_as (lex_string _ _ 8 c.in-Quote.ensures refl) c.string.ensures

@@ -14,4 +14,4 @@ returns-then-is_real c =
 pub returns : goal.returns
 returns c =
     tells _ _ c.spanning-2.ensures
-    (number_some _ _ _ _ c.sum_up-end.ensures _ c.is_real.ensures c.if-is_real.false c.if-value-gt4294967295.false c.requires.1 c.requires.2)
+    (number_some _ _ _ _ c.sum_up-end.ensures _ c.is_real.ensures c.if-is_real.false c.if-value-gt4294967295.false c.requires.0 c.requires.1)

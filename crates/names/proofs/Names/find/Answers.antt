@@ -11,8 +11,8 @@ use Rattle.names.proofs.Names.find.Goals as goal
 pub loop-h-init : goal.loop-h-init
 loop-h-init c = walk_start c.args.self.now.index c.args.at _ c.requires.1
 
-pub same_name-requires-clause-a_in_bounds : goal.same_name-requires-clause-a_in_bounds
-same_name-requires-clause-a_in_bounds c =
+pub same_name-requires : goal.same_name-requires
+same_name-requires c =
     let q = c.args.self.now in
     (c.requires.0, rw (← first_at q.entries (c.loop-h.h - 1)) (q.index.places.inside _ (omega (arith, c.loop-h.invariant.within))))
 

@@ -9,8 +9,8 @@ loop-j-preserved-then-entry-kind c =
     let q = c.args.self.now in
     other_kind c.loop-j.invariant c.loop-j-test.true (λ e. c.if-entry-kind.true (sym (kind_at q.entries c.loop-j.j) ∙ e))
 
-pub same_part-requires-clause-n_in_bounds : goal.same_part-requires-clause-n_in_bounds
-same_part-requires-clause-n_in_bounds c =
+pub same_part-requires : goal.same_part-requires
+same_part-requires c =
     let q = c.args.self.now in
     (c.requires, omega (arith, q.inside.each c.loop-j.j c.loop-j-test.true, start_at q.entries c.loop-j.j, size_at q.entries c.loop-j.j))
 

@@ -3,15 +3,15 @@ use Rattle.tokens.specs.Lexemes.{token_of}
 use lib.ListN.{get_or}
 use Rattle.text.specs.Reading.{within}
 use Rattle.putting.proofs.Making.{onward_as, makes, makes_none, makes_sign, closes, entered_as, body_type}
-use Rattle.putting.proofs.put_within.Goals as goal
+use Rattle.putting.proofs.Output.put_within.Goals as goal
 
 pub put-requires : goal.put-requires
 unfolding body
-put-requires c = (c.requires.0, (entered_as c.in-Name.is c.requires.3).fits)
+put-requires c = (c.requires.0, (entered_as c.in-Name.is c.requires.2).fits)
 
 pub put-requires-in-Call : goal.put-requires-in-Call
 unfolding body
-put-requires-in-Call c = (c.requires.0, (entered_as c.in-Call.is c.requires.3).fits)
+put-requires-in-Call c = (c.requires.0, (entered_as c.in-Call.is c.requires.2).fits)
 
 pub put-requires-in-Macrodigit : goal.put-requires-in-Macrodigit
 unfolding body
@@ -21,14 +21,14 @@ put-requires-in-Macrodigit c =
 
 pub put_characters-requires : goal.put_characters-requires
 put_characters-requires c =
-    let e = entered_as c.in-String.is c.requires.3 in
-    (c.requires.0, c.requires.1, closes _ _ _ c.requires.2 e.ahead e.proper)
+    let e = entered_as c.in-String.is c.requires.2 in
+    (c.requires.0, closes _ _ _ c.requires.1 e.ahead e.proper)
 
 pub put-requires-in-Variable : goal.put-requires-in-Variable
 put-requires-in-Variable c =
     let (ek, en) = c.variable.ensures in (
       c.requires.0,
-      rw (ek, en, body_type (get_or c.args.text.now c.args.at 0)) (entered_as c.in-Variable.is c.requires.3).fits,
+      rw (ek, en, body_type (get_or c.args.text.now c.args.at 0)) (entered_as c.in-Variable.is c.requires.2).fits,
     )
 
 pub returns-in-Gap : goal.returns-in-Gap
