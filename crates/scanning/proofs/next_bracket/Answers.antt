@@ -4,9 +4,6 @@ use Rattle.elements.proofs.Levels.{characters_on}
 use Rattle.scanning.proofs.Scan.{here_open, here_close, seek_next, seek_on, seek_end}
 use Rattle.scanning.proofs.next_bracket.Goals as goal
 
-pub loop-c-init : goal.loop-c-init
-loop-c-init c = record { upto = c.requires.at_in_bounds; whole = c.requires.whole; so = refl }
-
 pub returns-then-passed-eq-CALL : goal.returns-then-passed-eq-CALL
 returns-then-passed-eq-CALL c =
     here_open _ _ _ c.loop-c.invariant c.loop-c-test.true (sym c.pass-passed.ensures.kind_is ∙ c.if-passed-eq-CALL.true)

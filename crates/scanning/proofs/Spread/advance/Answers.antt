@@ -12,7 +12,7 @@ next_mark-mark-requires c =
     let i = c.loop-at.invariant in
     let l = i.long in
     let r = i.room in
-    record { good = i.good; roomy = (omega arith, omega arith); standing = i.standing }
+    record { good = i.good; notes = omega arith; standing = i.standing }
 
 pub returns-in_default : goal.returns-in_default
 returns-in_default c =
