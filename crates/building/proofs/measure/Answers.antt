@@ -1,7 +1,9 @@
 use native.Mathlib.Omega.{arith}
+use mathlib.Core.Path.{refl, sym, ◌∙◌}
 use Rattle.building.proofs.Spans.{walk}
 use Rattle.building.proofs.Filling.{measuring_start, measured_no, measuring_more, measured_all}
 use Rattle.building.proofs.measure.Goals as goal
+use Rattle.building.proofs.measure.Goals.{then-is_call, else-is_call}
 
 pub loop-at-init : goal.loop-at-init
 loop-at-init c = let g = c.requires.given in (g.arg, measuring_start _ _ _ _ _ _ g.upto c.requires.whole g.ready)
@@ -23,13 +25,12 @@ returns-then-limit-size c =
     let w = walk _ _ _ _ _ c.requires.given.fits c.loop-at-test.true i.whole i.ready _ c.length_of-len.ensures.0 in
     measured_no _ _ _ _ _ _ _ _ _ _ i _ w (rw (← c.span_of-span.ensures) c.if-limit-size.true)
 
-pub counted-calls-requires : goal.counted-calls-requires
-counted-calls-requires c =
+pub overflow_add-calls : goal.overflow_add-calls
+overflow_add-calls c =
     let i = c.loop-at.invariant.1 in
     let k = i.few in
     let t = c.loop-at-test.true in
     let f = c.requires.given.fits in
-    let s = c.requires.program_len_bound in
     omega arith
 
 pub overflow_add-at : goal.overflow_add-at
@@ -53,7 +54,12 @@ loop-at-preserved c =
     let w = walk _ _ _ _ _ c.requires.given.fits c.loop-at-test.true i.whole i.ready _ c.length_of-len.ensures.0 in (
       c.loop-at.invariant.0,
       rw c.span_of-span.ensures
-          (measuring_more _ _ _ _ _ _ _ _ _ _ i _ w _ _ c.counted-calls.ensures c.longer-best.ensures
+          (measuring_more _ _ _ _ _ _ _ _ _ _ i _ w _ _
+          (elim c.if-is_call.branch [
+            | then-is_call w ↦ w.calls-is ∙ rw (sym c.is_call.ensures ∙ w.if-is_call.true) refl
+            | else-is_call w ↦ w.calls-is ∙ rw (sym c.is_call.ensures ∙ w.if-is_call.false) refl
+          ])
+          c.longer-best.ensures
           (rw (← c.span_of-span.ensures) c.if-limit-size.false)),
     )
 
