@@ -212,9 +212,6 @@ two_built f b x y s₁ s₂ n m rx ry en e1 em e2 =
       sym (drop-take n (m - n) s₂) ∙ ap (λ (k : ℕ). drop n (take k s₂)) (sym q) ∙ ap (drop n) e ∙ drop_at (pour f b x) (pour f b y) n lx,
     )
 
-pub argument_short : (f : List ℕ) (hi at : ℕ) → length f ≤ 65536 → length (take (at - hi) (drop hi f)) ≤ 65536
-argument_short f hi at h = omega (arith, length-take (at - hi) (drop hi f), length-drop hi f)
-
 -- a part of the argument is a part of the field
 pub value_in : (f : List ℕ) (hi at v w : ℕ) → hi ≤ at → at ≤ length f → v ≤ w → w ≤ length (take (at - hi) (drop hi f)) → take (w - v) (drop (hi + v) f) ≡ take (w - v) (drop v (take (at - hi) (drop hi f)))
 value_in f hi at v w h l u k =

@@ -69,7 +69,6 @@ pub record Given (p : List ℕ) (from to : ℕ) (b : List ℕ) : Type 0 where
   pub upto : from ≤ to
   pub fits : to ≤ length p
   pub arg : List ℕ
-  pub short : length arg ≤ 65536
   pub ready : Ready arg b (side_of p from to)
 
 -- the element at a place, with such a value

@@ -59,14 +59,6 @@ fn span_of(program: &[u8], at: usize, len: usize, binds: &[usize; kinds::BINDS])
     binds[slot + kinds::SLOTS] - binds[slot]
 }
 
-// The number of call brackets, with an element of this kind more.
-fn counted(kind: u8, calls: usize) -> usize
-    requires { calls < 65536 }
-    ensures { result ≡ cond (is_call (kind ∷ [])) (calls + 1) calls }
-{
-    if is_call(kind) { calls + 1 } else { calls }
-}
-
 // The longer of two values, where the element at `at` is one.
 fn longer(best: Longest, kind: u8, at: usize, span: usize) -> Longest
     ensures { (result.at ≡ best.at) ⊎ ((is_variable (kind ∷ []) ≡ true) × (result.at ≡ at)) }
@@ -89,7 +81,6 @@ pub fn measure(
 ) -> Option<Extent>
     requires given { Given program.now side.from side.to binds.now }
     requires whole { Whole (right_of program.now side) }
-    requires program_len_bound { length program.now ≤ 65536 }
     ensures { Measured program.now side.from side.to binds.now limit result }
 {
     let mut at = side.from;
@@ -106,7 +97,9 @@ pub fn measure(
         if limit - size < span {
             return None;
         }
-        calls = counted(kind, calls);
+        if is_call(kind) {
+            calls += 1;
+        }
         best = longer(best, kind, at, span);
         size += span;
         at += len;
@@ -247,7 +240,7 @@ pub fn place(
     scratch: &mut [u8],
 )
     requires in_program { (side.from ≤ side.to) × (side.to ≤ length program.now) × Whole (right_of program.now side) × Pivot program.now side.from side.to pivot }
-    requires hi_le_at { (hi ≤ at) × (at < length field.old) × (length field.old ≤ 65536) }
+    requires hi_le_at { (hi ≤ at) × (at < length field.old) }
     requires ready { Ready (take (at - hi) (drop hi field.old)) binds.now (right_of program.now side) }
     requires room { (spans binds.now (right_of program.now side) ≤ at + 1) × (length field.old ≤ length scratch.old) }
     ensures { field.new ≡ take (at + 1 - spans binds.now (right_of program.now side)) field.old ++ (pour (take (at - hi) (drop hi field.old)) binds.now (right_of program.now side) ++ drop (at + 1) field.old) }
@@ -289,7 +282,6 @@ pub fn note(
 )
     requires given { Given program.now side.from side.to binds.now }
     requires whole { Whole (right_of program.now side) }
-    requires program_len_bound { length program.now ≤ 65536 }
     requires room { (start + spans binds.now (right_of program.now side) ≤ 65536) × (first + calls_of (right_of program.now side) ≤ length calls.old) }
     ensures { calls.new ≡ sets calls.old first (placed start binds.now (right_of program.now side)) }
 {

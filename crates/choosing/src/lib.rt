@@ -62,7 +62,6 @@ fn is_name(number: u32, lo: u8, hi: u8) -> bool
 // The body of the first function with that name, if there is one.
 pub fn find(program: &[u8], lo: u8, hi: u8) -> Option<Cursor>
     requires program { Program program.now }
-    requires program_len_bound { length program.now ≤ 65536 }
     ensures { Looked program.now (lo ∷ hi ∷ []) result }
 {
     let mut c = Cursor { at: 0 };
@@ -87,7 +86,7 @@ pub fn choose(
     arg: &[u8],
     binds: &mut [usize; kinds::BINDS],
 ) -> Option<Side>
-    requires at_in_bounds { (body.at ≤ length program.now) × (length program.now ≤ 65536) }
+    requires at_in_bounds { body.at ≤ length program.now }
     requires whole { Whole (rest_of program.now body.at) }
     requires body { Body (rest_of program.now body.at) }
     requires balanced { Balanced 0 (elements arg.now) }

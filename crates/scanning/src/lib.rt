@@ -29,7 +29,6 @@ pub struct Mark {
 // The place of the first call bracket from `at` on, or the end.
 fn next_bracket(field: &[u8], at: usize) -> usize
     requires at_in_bounds { at ≤ length field.now }
-    requires field_len_bound { length field.now ≤ 65536 }
     requires whole { Whole (cut 0 (drop at field.now)) }
     ensures { result ≡ at + size (calm (cut 0 (drop at field.now))) }
 {
@@ -52,7 +51,7 @@ impl Spread {
     // The next call bracket, from the notes or, where these are used up, read off the field.
     fn next_mark(self, field: &[u8], calls: &[u16]) -> Mark
         requires good { Good field.now self.lo self.hi }
-        requires roomy { Roomy field.now calls.now }
+        requires notes { length field.now ≤ 2 * length calls.now }
         requires standing { Stands field.now self calls.now }
         ensures { (result.spread.lo ≡ self.lo) × (result.spread.hi ≡ self.hi) × (result.spread.depth ≡ self.depth) × Next field.now self.lo self.hi calls.now result.at result.spread.read self.depth result.spread.top }
     {

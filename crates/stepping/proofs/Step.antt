@@ -106,8 +106,8 @@ module _ {p f : List ℕ} {from hi at : ℕ} {body : Cursor} (g : Good f (from +
     ap_is : apply (sentences (rest_of p body.at)) u.term.x ≡ some sd.r
     ap_is = ap (apply (sentences (rest_of p body.at))) (sym (arg_is g u.term)) ∙ sd.is
 
-    pub in_given : length f ≤ 65536 → Given p d.from d.to b
-    in_given h = record { upto = sd.up; fits = sd.upto; arg = argument_of f hi at; short = omega (arith, length-take (at - hi) (drop hi f), length-drop hi f); ready = sd.ready }
+    pub in_given : Given p d.from d.to b
+    in_given = record { upto = sd.up; fits = sd.upto; arg = argument_of f hi at; ready = sd.ready }
 
     long_r : spans b (side_of p d.from d.to) ≡ size sd.r
     unfolding size

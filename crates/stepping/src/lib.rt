@@ -67,7 +67,7 @@ fn step_in(
     binds: &mut [usize; kinds::BINDS],
     calls: &mut [u16],
 ) -> Result<Onward, Stuck>
-    requires program_len_bound { (length program.now ≤ 65536) × Functions (rest_of program.now 0) }
+    requires functions { Functions (rest_of program.now 0) }
     requires looked { Looked program.now (get_or field.old (lead.from + 1) 0 ∷ get_or field.old (lead.from + 2) 0 ∷ []) (Some body) }
     requires good { Good field.old (lead.from + 3) lead.hi }
     requires led { Led field.old lead calls.old }

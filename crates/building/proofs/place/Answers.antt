@@ -1,4 +1,4 @@
-use Rattle.building.proofs.Placing.{argument_short, parts_long, value_inside, placed_all}
+use Rattle.building.proofs.Placing.{parts_long, value_inside, placed_all}
 use native.Mathlib.Omega.{arith}
 use Rattle.building.proofs.place.Goals as goal
 
@@ -12,7 +12,6 @@ pivot_part-value-requires c =
         upto = a.0;
         fits = a.1;
         arg = _;
-        short = argument_short c.args.field.now c.args.hi c.args.at h.2;
         ready = c.requires.ready;
       };
       whole = a.2;
@@ -46,7 +45,6 @@ overflow_add-hi c =
     let q = c.pivot_part-value.ensures _ _ a.3 a.2 a.0 a.1 r in
     let h = c.requires.hi_le_at in
     let i = value_inside _ _ _ _ _ _ _ _ _ _ _ h.0 h.1 q r in
-    let h2 = h.2 in
     omega arith
 
 pub put_in-requires : goal.put_in-requires

@@ -6,7 +6,7 @@ use Rattle.choosing.proofs.choose.Goals as goal
 
 pub loop-c-init : goal.loop-c-init
 loop-c-init c =
-    record { upto = c.requires.at_in_bounds.0; whole = c.requires.whole; body = c.requires.body; so = refl }
+    record { upto = c.requires.at_in_bounds; whole = c.requires.whole; body = c.requires.body; so = refl }
 
 pub kind_at-requires : goal.kind_at-requires
 kind_at-requires c = place_in c.loop-c.invariant

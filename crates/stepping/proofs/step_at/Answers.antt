@@ -35,7 +35,7 @@ look_up-requires c =
 pub step_in-requires : goal.step_in-requires
 step_in-requires c =
     record {
-      program_len_bound = (c.requires.program_len_bound.0, c.requires.program_len_bound.1);
+      functions = c.requires.program_len_bound.1;
       looked = rw c.in_ok-body.ensures.ok_part at c.look_up.ensures.looked;
       good = c.requires.good;
       led = c.requires.led;

@@ -14,7 +14,7 @@ pub choose-requires : goal.choose-requires
 choose-requires c =
     let k = place _ _ _ c.requires.looked in
     record {
-      at_in_bounds = (k.upto, c.requires.program_len_bound.0);
+      at_in_bounds = k.upto;
       whole = k.whole;
       body = k.body;
       balanced = arg_balanced c.requires.good c.requires.led.under.term;
@@ -32,9 +32,8 @@ measure-requires c =
     let l = c.requires.looked in
     let u = c.requires.led.under in
     record {
-      given = in_given g u l c.choose.ensures c.in_ok-side.ensures.ok_part c.requires.roomy.0.0;
+      given = in_given g u l c.choose.ensures c.in_ok-side.ensures.ok_part;
       whole = (sd g u l c.choose.ensures c.in_ok-side.ensures.ok_part).whole;
-      program_len_bound = c.requires.program_len_bound.0;
     }
 
 pub returns-in_err-extent : goal.returns-in_err-extent
@@ -53,7 +52,7 @@ place-requires c =
     let (a, i, e) = places g u.term in
     let d = sd g u l c.choose.ensures c.in_ok-side.ensures.ok_part in
     let (y, z, _, v) = c.measure.ensures.yes _ c.in_ok-extent.ensures.ok_part in
-    record { in_program = (d.up, d.upto, d.whole, v); hi_le_at = (i, e, h.0.0); ready = d.ready; room = (omega arith, h.1) }
+    record { in_program = (d.up, d.upto, d.whole, v); hi_le_at = (i, e); ready = d.ready; room = (omega arith, h.1) }
 
 pub overflow_sub-start : goal.overflow_sub-start
 overflow_sub-start c =
@@ -61,7 +60,7 @@ overflow_sub-start c =
 
 pub overflow_sub-first : goal.overflow_sub-first
 overflow_sub-first c =
-    let k = in_count c.requires.good c.requires.led.under c.requires.looked c.choose.ensures c.in_ok-side.ensures.ok_part c.measure.ensures c.in_ok-extent.ensures.ok_part c.requires.program_len_bound.1 c.requires.roomy.0.1 in
+    let k = in_count c.requires.good c.requires.led.under c.requires.looked c.choose.ensures c.in_ok-side.ensures.ok_part c.measure.ensures c.in_ok-extent.ensures.ok_part c.requires.functions c.requires.roomy.0.1 in
     omega (arith, (c.measure.ensures.yes _ c.in_ok-extent.ensures.ok_part).2)
 
 pub note-requires : goal.note-requires
@@ -71,18 +70,17 @@ note-requires c =
     let u = c.requires.led.under in
     let h = c.requires.roomy.0 in
     let (_, e, r) = start_in g u l c.choose.ensures c.in_ok-side.ensures.ok_part c.measure.ensures c.in_ok-extent.ensures.ok_part in
-    let k = in_count g u l c.choose.ensures c.in_ok-side.ensures.ok_part c.measure.ensures c.in_ok-extent.ensures.ok_part c.requires.program_len_bound.1 h.1 in
+    let k = in_count g u l c.choose.ensures c.in_ok-side.ensures.ok_part c.measure.ensures c.in_ok-extent.ensures.ok_part c.requires.functions h.1 in
     let y = (c.measure.ensures.yes _ c.in_ok-extent.ensures.ok_part).2 in
     let i = u.inside in
     let o = h.0 in
     record {
-      given = in_given g u l c.choose.ensures c.in_ok-side.ensures.ok_part h.0;
+      given = in_given g u l c.choose.ensures c.in_ok-side.ensures.ok_part;
       whole = (sd g u l c.choose.ensures c.in_ok-side.ensures.ok_part).whole;
-      program_len_bound = c.requires.program_len_bound.0;
       room = (omega arith, omega arith);
     }
 
 pub returns : goal.returns
 returns c =
-    λ read depth u. in_done c.requires.good u c.requires.looked c.choose.ensures c.in_ok-side.ensures.ok_part c.measure.ensures c.in_ok-extent.ensures.ok_part c.requires.program_len_bound.1
+    λ read depth u. in_done c.requires.good u c.requires.looked c.choose.ensures c.in_ok-side.ensures.ok_part c.measure.ensures c.in_ok-extent.ensures.ok_part c.requires.functions
     c.requires.roomy.0.1 c.place.ensures c.note.ensures

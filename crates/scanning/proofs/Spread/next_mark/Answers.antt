@@ -12,7 +12,7 @@ returns-in-Some c =
 pub next_bracket-at-requires : goal.next_bracket-at-requires
 next_bracket-at-requires c =
     let (within, whole) = may_read _ _ _ _ _ _ _ c.requires.good c.requires.standing in
-    record { at_in_bounds = within; field_len_bound = c.requires.roomy.0; whole = whole }
+    record { at_in_bounds = within; whole = whole }
 
 pub returns-then-at-field : goal.returns-then-at-field
 returns-then-at-field c = (
@@ -38,7 +38,7 @@ returns c = (
   refl,
   record {
     yes = found_at _ (read_on _ _ _ _ _ _ _ c.requires.good c.requires.standing (ltb-false _ _ (sym c.in_default.ensures.lookup.0)) _ c.next_bracket-at.ensures c.if-at-field.false
-        c.requires.roomy.1 _ c.pass-passed.ensures.next_is);
+        c.requires.notes _ c.pass-passed.ensures.next_is);
     no = λ z. some_none z;
   },
 )
