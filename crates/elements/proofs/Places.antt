@@ -143,6 +143,19 @@ module _ {s : List ℕ} {at : ℕ} (p : ProperAt s at) where
       let i : here s at h ≡ p.e = cc (cut_here s at h, p.is) in
       rw i at (splits_here s at h (rw i (p.whole.long ∙ ap (λ (x : List ℕ). suc (body (kind x))) (sym i) ∙ rw (kind_here s at h))))
 
+  -- it is read
+  pub not_unread : {r : Unread} → ReadAt s at (Err r) → ⊥
+  not_unread (over l) = let h = proper_inside in omega arith
+  not_unread (unknown h z) =
+      let i : here s at h ≡ p.e = cc (cut_here s at h, p.is) in
+      let k : kind p.e ≡ get_or s at 0 = sym (ap kind i) ∙ kind_here s at h in
+      let y : span 1 15 (get_or s at 0) ≡ true = rw k at p.whole.known in
+      never (cc)
+  not_unread (short h z l) = let r = proper_splits.fits in omega arith
+
+pub proper_too : {a b : List ℕ} {at : ℕ} → ProperAt a at → elements (drop at a) ≡ elements (drop at b) → ProperAt b at
+proper_too p q = record { e = p.e; es = p.es; is = sym q ∙ p.is; whole = p.whole }
+
 -- SYMBOLS AND TERMS, where an argument is balanced
 
 pub data Head (d : ℕ) (e : List ℕ) (es : List (List ℕ)) : Type 0 where

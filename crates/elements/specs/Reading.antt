@@ -92,3 +92,15 @@ pub record ProperAt (s : List ℕ) (at : ℕ) : Type 0 where
   pub es : List (List ℕ)
   pub is : elements (drop at s) ≡ e ∷ es
   pub whole : Whole1 e
+
+-- the element at a place, if both have it there
+pub data Shared (a b : List ℕ) (at : ℕ) : Option ℕ → Type 0 where
+  both : {e : List ℕ} {t : ℕ} → at < t → Splits a at (e ∷ []) t → Splits b at (e ∷ []) t → Shared a b at (Some t)
+  differ : (elements (drop at a) ≡ elements (drop at b) → ⊥) → Shared a b at None
+
+-- two values of one length are the same up to `at`, and whole from there on
+pub record Comparing (a b : List ℕ) (at : ℕ) : Type 0 where
+  pub fits : at ≤ length a
+  pub long : length a ≡ length b
+  pub proper : Proper (elements (drop at a))
+  pub same : take at a ≡ take at b

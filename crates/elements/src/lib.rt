@@ -4,7 +4,7 @@
 ghost use Rattle.std.specs.Prelude.{◌≡◌, ◌+◌, ◌^◌, ◌<◌, ◌≤◌, length, get_or, take, drop};
 ghost use Rattle.meaning.specs.Elements.{body, elements};
 ghost use Rattle.elements.specs.Bytes.{kind_of, number_of, digits, Told};
-ghost use Rattle.elements.specs.Reading.{ReadAt, NumberedAt, PassedOver, Level, depth_after, Characters, Shutting, Shut, SymbolEnd, TermEnd};
+ghost use Rattle.elements.specs.Reading.{ReadAt, Proper, NumberedAt, PassedOver, Level, depth_after, Characters, Shutting, Shut, SymbolEnd, TermEnd, ProperAt, Shared, Comparing};
 
 // An element: fifteen kinds, with the number in the body where there is one.
 #[derive(Clone, Copy, PartialEq, Eq)]
@@ -256,9 +256,64 @@ pub fn term_end(s: &[u8], at: usize) -> Option<usize>
     }
 }
 
-// Whether two values are equal: each has one spelling in bytes.
+// Past the element a[at..end], if it stands in both there: byte by byte.
+fn shared_bytes(a: &[u8], b: &[u8], at: usize, end: usize) -> Option<usize>
+    requires { ProperAt a.now at × (end ≡ at + 1 + body (get_or a.now at 0)) × (at ≤ length b.now) }
+    ensures { Shared a.now b.now at result }
+{
+    if b[at..].starts_with(&a[at..end]) {
+        Some(end)
+    } else {
+        None
+    }
+}
+
+// Past the element at a place, if it stands in both there.
+fn shared_end(a: &[u8], b: &[u8], at: usize) -> Option<usize>
+    requires { ProperAt a.now at × (at ≤ length b.now) }
+    ensures { Shared a.now b.now at result }
+{
+    let c = Cursor { at };
+    let passed = c.pass(a);
+    // Most elements are symbols: no element need be made of them.
+    if kinds::is_symbol(passed.kind) {
+        return shared_bytes(a, b, at, passed.next.at);
+    }
+    let (x, next) = c.read(a).ok()?;
+    let (y, _) = c.read(b).ok()?;
+    if x == y { Some(next.at) } else { None }
+}
+
+// Past the characters at a place that stand in both there. A `for` would not say where it ended.
+fn shared_characters(a: &[u8], b: &[u8], at: usize) -> usize
+    requires { Comparing a.now b.now at }
+    ensures { Comparing a.now b.now result × (at ≤ result) }
+{
+    let mut i = at;
+    while i + 1 < a.len()
+        && a[i] == kinds::CHARACTER
+        && b[i] == kinds::CHARACTER
+        && a[i + 1] == b[i + 1]
+    {
+        i += 2;
+    }
+    i
+}
+
+// Whether two values are equal. It goes element by element until change request Five (issue 16), which is to change it alone.
 pub fn equal_values(a: &[u8], b: &[u8]) -> bool
+    requires { Proper (elements a.now) }
     ensures { Told result (elements a.now ≡ elements b.now) }
 {
-    a == b
+    if a.len() != b.len() {
+        return false;
+    }
+    let mut at = shared_characters(a, b, 0);
+    while at < a.len() {
+        let Some(next) = shared_end(a, b, at) else {
+            return false;
+        };
+        at = shared_characters(a, b, next);
+    }
+    true
 }

@@ -5,7 +5,7 @@ use mathlib.Core.Option.{none}
 use mathlib.Core.List.{List, [], ◌∷◌, ◌++◌}
 use Prim.Native.Nat.{ℕ, ◌+◌, ◌-◌, ◌/◌, ◌%◌, ◌≤◌, ◌<◌}
 use native.Mathlib.Omega.{arith}
-use lib.ListN.{length, get_or, take, drop, length-append, length-drop, take-append-drop}
+use lib.ListN.{length, get_or, take, drop, length-append, length-take, length-drop, take-append-drop}
 use lib.Seq.{take_at, drop-drop}
 use lib.Dec.{eqb}
 use borrow.Author.Tests.{le-leb, eqb-true, eqb-false, ne_eqb}
@@ -51,6 +51,18 @@ module _ (value arg : List ℕ) (at : ℕ) (proper : Proper (elements value)) (f
   pub value_long : length arg - at < length value → ValueEnd (elements value) arg at None
   value_long l =
       differs (λ r q. never (let e = simp (length-append, length-drop) at (ap length (begins r q)) in omega arith))
+
+  -- the same of bytes with which the argument begins there
+  pub bytes_there : value ≡ take (length value) (drop at arg) → ValueEnd (elements value) arg at (Some (at + length value))
+  bytes_there e =
+      let z : at + length value - at ≡ length value = omega arith in
+      let l = simp (length-take, length-drop) at (ap length e) in
+      value_there (length value) refl (omega arith) (rw z (ap elements e))
+
+  pub bytes_elsewhere : (value ≡ take (length value) (drop at arg) → ⊥) → ValueEnd (elements value) arg at None
+  bytes_elsewhere f =
+      let z : at + length value - at ≡ length value = omega arith in
+      value_elsewhere (length value) refl (λ q. f (sym (join-cut _) ∙ ap join q ∙ join-cut _ ∙ rw z))
 
 -- ROLES BY KINDS
 
@@ -165,17 +177,14 @@ module _ {e : List ℕ} {slot : P.Option ℕ} {arg : List ℕ} {at : ℕ} {b : L
       go (of_variable x y o) = record { ways = rw (y, env_settled arg b m x (rw o at w)) (exact_ways _ arg at (rw (z, o) at v)) }
 
   -- or what it may mean
-  pub symbol_only : (r : P.Option ℕ) (o : Open slot m) (t : ℕ) → slot ≡ Some t → t < 16 → SymbolEnd arg at r → OnlyEnd e arg at b m r
+  pub symbol_only : (r : P.Option ℕ) (o : Open slot m) → o.s < 16 → SymbolEnd arg at r → OnlyEnd e arg at b m r
   unfolding known
-  symbol_only r o t q h v = go (rw q at s.placed.slotted)
+  symbol_only r o h v = go (rw o.is at s.placed.slotted)
     where
-      free : within m t ≡ false
-      free = let c : o.s ≡ t = cc (o.is, q) in rw c at o.free
-
-      go : Slotted e (Some t) → OnlyEnd e arg at b m r
+      go : Slotted e (Some o.s) → OnlyEnd e arg at b m r
       go (of_variable {k} {n} x y z) =
           elim (roles x) [
-            | s_role c f ↦ record { ways = rw (y, env_open arg b m x (rw z at free), f) (symbol_ways _ arg at v) }
+            | s_role c f ↦ record { ways = rw (y, env_open arg b m x (rw z at o.free), f) (symbol_ways _ arg at v) }
             | t_role c f ↦ never (omega arith)
             | e_role c f ↦ never (omega arith)
           ]

@@ -46,6 +46,18 @@ pub fn item_at(left: &[u8], at: usize) -> Item<'_>
     }
 }
 
+// Past an element, if it stands at a place of the argument: its few bytes are compared.
+fn element_end(bytes: &[u8], arg: &[u8], at: usize) -> Option<usize>
+    requires { Proper (elements bytes.now) × (at ≤ length arg.now) }
+    ensures { ValueEnd (elements bytes.now) arg.now at result }
+{
+    if arg[at..].starts_with(bytes) {
+        Some(at + bytes.len())
+    } else {
+        None
+    }
+}
+
 // Past a value, if it stands at a place of the argument.
 fn value_end(value: &[u8], arg: &[u8], at: usize) -> Option<usize>
     requires { Proper (elements value.now) × (at ≤ length arg.now) }
@@ -94,12 +106,16 @@ impl<'a> Values<'a> {
         requires { Single item.bytes.now item.slot self.arg.now at self.binds.now self.settled.bits }
         ensures { OnlyEnd item.entry.bytes.now self.entry.arg.now at self.entry.binds.now self.entry.settled.bits result }
     {
-        if let Some(value) = self.meant(item) {
-            return value_end(value, self.arg, at);
-        }
-        match item.slot {
-            Some(slot) if slot < kinds::T_SLOTS => elements::symbol_end(self.arg, at),
-            _ => elements::term_end(self.arg, at),
+        // Whether that is one element: it is no variable, or an s-variable.
+        let one = match item.slot {
+            Some(slot) => slot < kinds::T_SLOTS,
+            None => true,
+        };
+        match self.meant(item) {
+            Some(value) if one => element_end(value, self.arg, at),
+            Some(value) => value_end(value, self.arg, at),
+            None if one => elements::symbol_end(self.arg, at),
+            None => elements::term_end(self.arg, at),
         }
     }
 }
