@@ -36,7 +36,8 @@ pub struct Reader {
     pub len: usize,
 }
 
-// A reader with the stack of its check, and the buffer of its bytes.
+// A reader with the stack of its check, and the buffer of its bytes. `Prepared` stays a clause: it holds which reader of the definition this
+// one stands for, a choice, and a ghost field may have one proof at most.
 #[derive(Drop)]
 pub struct Output {
     pub reader: Reader,
@@ -122,13 +123,6 @@ fn further(mut reader: Reader, n: usize) -> Reader
     reader
 }
 
-// How far characters were put, and where reading stands then.
-#[derive(Clone, Copy)]
-struct Run {
-    at: usize,
-    reader: Reader,
-}
-
 // How many characters surely are good: as far as the string, the side and the buffer have room.
 fn sure(reader: Reader, limit: usize, bytes: usize, left: usize) -> usize
     ensures { Sure reader.state.count reader.len limit bytes left result }
@@ -136,38 +130,6 @@ fn sure(reader: Reader, limit: usize, bytes: usize, left: usize) -> usize
     let side = limit.saturating_sub(reader.state.count);
     let space = bytes.saturating_sub(reader.len) / 2;
     left.min(side).min(space)
-}
-
-// Puts characters that surely are good, up to the next quote.
-fn put_run(text: &[u8], from: usize, last: usize, quote: u8, reader: Reader, buf: &mut [u8]) -> Run
-    requires { Closes text.now quote from last }
-    ensures { (from ≤ result.at) × Runs text.now quote last from reader buf.old result.at result.reader buf.new }
-{
-    let none = Run { at: from, reader };
-    let part = reader.state.part;
-    if !taking::between(taking::LEFT, taking::RIGHT, part) {
-        return none;
-    }
-    let n = sure(reader, taking::limit_of(part), buf.len(), last - from);
-    if n == 0 {
-        return none;
-    }
-    let len = reader.len;
-    for k in 0..n {
-        let b = text[from + k];
-        if b == quote {
-            return Run {
-                at: from + k,
-                reader: further(reader, k),
-            };
-        }
-        buf[len + 2 * k] = kinds::CHARACTER;
-        buf[len + 2 * k + 1] = b;
-    }
-    Run {
-        at: from + n,
-        reader: further(reader, n),
-    }
 }
 
 // A variable by its letter.
@@ -211,6 +173,34 @@ impl Output {
         Some(())
     }
 
+    // Puts characters that surely are good, up to the next quote; how far they reach.
+    fn put_run(&mut self, text: &[u8], from: usize, last: usize, quote: u8) -> usize
+        requires { Closes text.now quote from last }
+        ensures { (from ≤ result) × (self.new.stack ≡ self.old.stack) × Runs text.now quote last from self.old.reader self.old.buf result self.new.reader self.new.buf }
+    {
+        let reader = self.reader;
+        let part = reader.state.part;
+        if !taking::between(taking::LEFT, taking::RIGHT, part) {
+            return from;
+        }
+        let n = sure(reader, taking::limit_of(part), self.buf.len(), last - from);
+        if n == 0 {
+            return from;
+        }
+        for k in 0..n {
+            let b = text[from + k];
+            if b == quote {
+                self.reader = further(reader, k);
+                return from + k;
+            }
+            let at = reader.len + 2 * k;
+            self.buf[at] = kinds::CHARACTER;
+            self.buf[at + 1] = b;
+        }
+        self.reader = further(reader, n);
+        from + n
+    }
+
     // Puts the characters of a string from `from` up to its closing quote at `last`.
     fn put_characters(&mut self, text: &[u8], from: usize, last: usize, quote: u8) -> Option<()>
         requires { Prepared self.old × Closes text.now quote from last }
@@ -220,16 +210,7 @@ impl Output {
         while i < last {
             let b = text[i];
             self.put(character(b))?;
-            let run = put_run(
-                text,
-                past_character(i, b, quote),
-                last,
-                quote,
-                self.reader,
-                &mut self.buf,
-            );
-            self.reader = run.reader;
-            i = run.at;
+            i = self.put_run(text, past_character(i, b, quote), last, quote);
         }
         Some(())
     }

@@ -27,8 +27,8 @@ returns-in_err-put c =
 pub past_character-requires : goal.past_character-requires
 past_character-requires c = omega (arith, c.loop-i.invariant.shut.inside, c.loop-i-test.true)
 
-pub put_run-run-requires : goal.put_run-run-requires
-put_run-run-requires c =
+pub put_run-i-requires : goal.put_run-i-requires
+put_run-i-requires c =
     let i = c.loop-i.invariant in
     (turn i.going i.shut c.loop-i-test.true c.past_character.ensures
     (rw (c.character.ensures.0, c.character.ensures.1) at (led c.in_ok-put.ensures))).1
@@ -39,7 +39,7 @@ loop-i-smaller c =
       arith,
       c.loop-i-test.true,
       c.past_character.ensures,
-      c.put_run-run.ensures.0,
+      c.put_run-i.ensures.0,
       past_more c.loop-i.i (get_or c.args.text.now c.loop-i.i 0) c.args.quote,
     )
 
@@ -48,8 +48,8 @@ loop-i-preserved c =
     let i = c.loop-i.invariant in
     let t = turn i.going i.shut c.loop-i-test.true c.past_character.ensures (rw (c.character.ensures.0, c.character.ensures.1) at (led c.in_ok-put.ensures))
     in
-    let r = c.put_run-run.ensures.1 in
-    record { going = r.going _ _ _ _ _ c.requires.0 t.0; shut = r.shut }
+    let (m, same, r) = c.put_run-i.ensures in
+    record { going = rw same (r.going _ _ _ _ _ c.requires.0 t.0); shut = r.shut }
 
 pub returns : goal.returns
 returns c = leads (turn_over c.loop-i.invariant.going c.loop-i.invariant.shut c.loop-i-test.false)
