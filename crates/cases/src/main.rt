@@ -5,7 +5,7 @@ use casework::{Case, Hashed};
 use checking_fields::FieldFault;
 use desk::Record;
 use hexing::Hex;
-use machine::Answer;
+use machine::{Answer, Code};
 use std::alloc::Global;
 use std::io::{BufWriter, Read, Write};
 use std::{fmt, io};
@@ -36,8 +36,8 @@ fn check<R: Read, W: Write>(
     let tag = casework::byte(file);
     let bytes = casework::load(file, bytes);
     match tag {
-        b'P' => found(out, checking::check_program(bytes))?,
-        b'F' => found_in_field(out, bytes, scratch)?,
+        Some(b'P') => found(out, checking::check_program(bytes))?,
+        Some(b'F') => found_in_field(out, bytes, scratch)?,
         _ => return Ok(None),
     }
     Ok(Some(()))
@@ -54,7 +54,7 @@ fn joined(alloc: Global, parts: &[&[u8]], most: usize) -> io::Result<Vec<u8>> {
 }
 
 // A step of the program whose one sentence is `left = right`, on a call with that argument: the code, and the field afterwards.
-fn step(alloc: Global, left: &[u8], right: &[u8], arg: &[u8]) -> io::Result<(u8, Vec<u8>)> {
+fn step(alloc: Global, left: &[u8], right: &[u8], arg: &[u8]) -> io::Result<(Code, Vec<u8>)> {
     let sentence = [b"\x0D\x00\x00", left, b"\x0B", right, b"\x0C\x0E\x0F"];
     let program = joined(alloc, &sentence, 1024)?;
     let mut field = joined(alloc, &[b"\x06\x00\x00", arg, b"\x07"], 4096)?;
@@ -63,7 +63,7 @@ fn step(alloc: Global, left: &[u8], right: &[u8], arg: &[u8]) -> io::Result<(u8,
     let mut scratch = [0u8; 4096];
     let a = machine::run(&program, &mut field, used, &mut scratch, 1);
     field.truncate(a.used);
-    Ok((machine::number(a.code), field))
+    Ok((a.code, field))
 }
 
 // The variable's value, if it stands on the left side: what it gives on the right.
@@ -76,7 +76,7 @@ fn value<W: Write>(
     number: u8,
 ) -> io::Result<()> {
     let (code, field) = step(alloc, left, &[kind, number], arg)?;
-    if code != 0 {
+    if code != Code::Done {
         return Ok(());
     }
     let letter = match kind {
@@ -91,8 +91,8 @@ fn value<W: Write>(
 fn fits<W: Write>(out: &mut W, alloc: Global, left: &[u8], arg: &[u8]) -> io::Result<()> {
     let (code, _) = step(alloc, left, b"", arg)?;
     match code {
-        0 => write!(out, "yes")?,
-        2 => return writeln!(out, "no"),
+        Code::Done => write!(out, "yes")?,
+        Code::NoMatch => return writeln!(out, "no"),
         _ => return writeln!(out, "no left side, or no argument"),
     }
     for v in 0..kinds::SLOTS as u8 {

@@ -1,10 +1,10 @@
 // What the case programs share: the cases of a file, the parts of a case, and the hash of what a case leaves behind.
 #![tactic(auto)]
 
-ghost use Rattle.std.specs.Prelude.{◌≡◌, ◌≤◌, length, Some, IfSome};
+ghost use Rattle.std.specs.Prelude.{◌≡◌, ◌⊎◌, [], ◌≤◌, length, Some, IfSome};
 ghost use Rattle.casework.specs.Hash.{hash_of};
 ghost use Rattle.casework.specs.Printed.{word_of};
-ghost use Rattle.casework.specs.Words.{IsNext};
+ghost use Rattle.casework.specs.Words.{IsNext, IsByte, IsPart};
 
 use hexing::Hex;
 use std::fs::File;
@@ -43,16 +43,19 @@ pub fn number<R: Read>(file: &mut R) -> Option<u32>
     Some(u32::from_le_bytes(b))
 }
 
-// A byte, or 0 where the file ends.
-pub fn byte<R: Read>(file: &mut R) -> u8 {
+// A byte; none where the file ends.
+pub fn byte<R: Read>(file: &mut R) -> Option<u8>
+    ensures { IsByte (R.remaining file.old) (R.remaining file.new) result }
+{
     let mut b = [0u8; 1];
-    let _ = file.read_exact(&mut b);
-    b[0]
+    file.read_exact(&mut b).ok()?;
+    Some(b[0])
 }
 
 // A length, and the start of a buffer with that many bytes, as far as the file has them; none where it does not fit.
 pub fn part<'a, R: Read>(file: &mut R, buf: &'a mut [u8]) -> Option<&'a mut [u8]>
-    ensures { IfSome result (λ part. length part.now ≤ length buf.old) }
+    ensures long { IfSome result (λ part. IsPart (R.remaining file.old) part.now) }
+    ensures in_bounds { IfSome result (λ part. length part.now ≤ length buf.old) }
 {
     let n = number(file)? as usize;
     let part = buf.get_mut(..n)?;
@@ -62,7 +65,8 @@ pub fn part<'a, R: Read>(file: &mut R, buf: &'a mut [u8]) -> Option<&'a mut [u8]
 
 // The same, but empty where there is none.
 pub fn load<'a, R: Read>(file: &mut R, buf: &'a mut [u8]) -> &'a mut [u8]
-    ensures { length result.now ≤ length buf.old }
+    ensures long { (result.now ≡ []) ⊎ IsPart (R.remaining file.old) result.now }
+    ensures in_bounds { length result.now ≤ length buf.old }
 {
     part(file, buf).unwrap_or(&mut [])
 }
@@ -84,6 +88,7 @@ pub fn next_case<'a, R: Read>(
     field: &'a mut [u8],
     scratch: &'a mut [u8],
 ) -> Option<Case<'a>>
+    ensures program_long { IfSome result (λ c. IsPart (R.remaining file.old) c.program.now) }
     ensures program_in_bounds { IfSome result (λ c. length c.program.now ≤ length program.old) }
     ensures field_in_bounds { IfSome result (λ c. length c.field.now ≤ length field.old) }
     ensures scratch_in_bounds { IfSome result (λ c. length c.scratch.now ≤ length scratch.old) }
@@ -93,7 +98,7 @@ pub fn next_case<'a, R: Read>(
     let used = number(file).unwrap_or(0) as usize;
     let n = number(file).unwrap_or(0) as usize;
     let scratch = scratch.get_mut(..n)?;
-    scratch.fill(byte(file));
+    scratch.fill(byte(file).unwrap_or(0));
     let last = number(file).unwrap_or(0);
     Some(Case {
         program,

@@ -26,7 +26,7 @@ fn next_case<'a, R: Read>(
     let program = program.get_mut(..n)?;
     let n = casework::number(file).unwrap_or(0) as usize;
     let list = list.get_mut(..n)?;
-    let byte = casework::byte(file);
+    let byte = casework::byte(file).unwrap_or(0);
     program.fill(byte);
     list.fill(byte);
     Some(Case {
