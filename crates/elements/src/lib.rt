@@ -294,7 +294,7 @@ fn shared_characters(a: &[u8], b: &[u8], at: usize) -> usize
     i
 }
 
-// Whether two values are equal. It goes element by element until change request Five (issue 16), which is to change it alone.
+// Whether two values are equal. It goes element by element until change request Five, which is to change it alone.
 pub fn equal_values(a: &[u8], b: &[u8]) -> bool
     requires { Proper (elements a.now) }
     ensures { Told result (elements a.now ≡ elements b.now) }
