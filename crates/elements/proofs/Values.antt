@@ -46,12 +46,16 @@ element_back FunctionEnd = refl
 element_back ProgramEnd = refl
 
 -- elements with the same bytes are one
-pub same_element : (x y : Element) → number_of x < 256 ^ body (kind_of x) → number_of y < 256 ^ body (kind_of y) → bytes_of x ≡ bytes_of y → x ≡ y
+same_element : (x y : Element) → number_of x < 256 ^ body (kind_of x) → number_of y < 256 ^ body (kind_of y) → bytes_of x ≡ bytes_of y → x ≡ y
 same_element x y bx by q =
     let k : kind_of x ≡ kind_of y = cc in
     let z : digits (body (kind_of x)) (number_of x) ≡ digits (body (kind_of y)) (number_of y) = cc in
     let n : number_of x ≡ number_of y = digits_same _ _ _ bx (rw (← k) at by) (rw (← k) at z) in
     sym (element_back x) ∙ rw (k, n) (element_back y)
+
+-- bytes that are cut into the same elements are the same
+bytes_same : (a b : List ℕ) → elements a ≡ elements b → a ≡ b
+bytes_same a b q = sym (join-cut a) ∙ ap join q ∙ join-cut b
 
 -- whether a list begins with some bytes at a place
 pub begins_told : (p s : List ℕ) (at : ℕ) {r : Bool} → r ≡ starts_with nat_eq (take (length s - at) (drop at s)) p → Told r (p ≡ take (length p) (drop at s))
@@ -73,7 +77,7 @@ pub whole_read : {s : List ℕ} {at : ℕ} {r : Result (Element × Cursor) Unrea
 whole_read {r = Ok y} p h q = never (cc)
 whole_read {r = Err u} p h q = not_unread p h
 
-module _ (a b : List ℕ) (at : ℕ) (p : ProperAt a at) where
+module _ (a b : List ℕ) (at : ℕ) where
   pub shared : {x y : Element} {c d : Cursor} → ReadAt a at (Ok (x, c)) → ReadAt b at (Ok (y, d)) → x ≡ y → Shared a b at (Some c.at)
   shared {x} {y} {c} {d} (got nx lx sx) (got ny ly sy) q =
       let e = ap bytes_of q in
@@ -83,8 +87,8 @@ module _ (a b : List ℕ) (at : ℕ) (p : ProperAt a at) where
   pub different : {x y : Element} {c d : Cursor} → ReadAt a at (Ok (x, c)) → ReadAt b at (Ok (y, d)) → (x ≡ y → ⊥) → Shared a b at None
   different {x} {y} (got nx lx sx) (got ny ly sy) n = differ (λ q. n (same_element x y nx ny (cc (sx.front, sy.front))))
 
-  pub lost : {r : Result (Element × Cursor) Unread} → ReadAt b at r → result_ok r ≡ None → Shared a b at None
-  lost h q = differ (λ e. whole_read (proper_too p e) h q)
+  pub lost : {r : Result (Element × Cursor) Unread} → ProperAt a at → ReadAt b at r → result_ok r ≡ None → Shared a b at None
+  lost p h q = differ (λ e. whole_read (proper_too p e) h q)
 
 -- a whole element's bytes
 module _ (a b : List ℕ) (at t : ℕ) (p : ProperAt a at) (is : t ≡ at + 1 + body (get_or a at 0)) where
@@ -114,7 +118,7 @@ module _ (a b : List ℕ) (at t : ℕ) (p : ProperAt a at) (is : t ≡ at + 1 + 
       both {t = t} (omega arith) split_a (record { on = omega arith; fits = omega arith; front = ap elements d ∙ cut-join (whole_one p.e p.whole.long) (drop t b) })
 
   pub bytes_apart : (take (t - at) (drop at a) ≡ take (t - at) (drop at b) → ⊥) → Shared a b at None
-  bytes_apart f = differ (λ q. f (ap (λ (l : List ℕ). take (t - at) l) (sym (join-cut (drop at a)) ∙ ap join q ∙ join-cut (drop at b))))
+  bytes_apart f = differ (λ q. f (ap (λ (l : List ℕ). take (t - at) l) (bytes_same (drop at a) (drop at b) q)))
 
 -- THE LOOP
 
@@ -168,9 +172,7 @@ module _ (a b : List ℕ) (at : ℕ) (k : Comparing a b at) (h : at < length a) 
       compare_on a b at (at + 2) k (bytes_shared a b at (at + 2) (compare_proper a b at k h) is (rw z two))
 
 pub compare_lost : (a b : List ℕ) (at : ℕ) → Shared a b at None → elements a ≡ elements b → ⊥
-compare_lost a b at (differ f) q =
-    let e : a ≡ b = sym (join-cut a) ∙ ap join q ∙ join-cut b in
-    f (ap (λ (l : List ℕ). elements (drop at l)) e)
+compare_lost a b at (differ f) q = f (ap (λ (l : List ℕ). elements (drop at l)) (bytes_same a b q))
 
 pub lengths_differ : (a b : List ℕ) → (length a ≡ length b → ⊥) → elements a ≡ elements b → ⊥
-lengths_differ a b n q = n (ap length (sym (join-cut a) ∙ ap join q ∙ join-cut b))
+lengths_differ a b n q = n (ap length (bytes_same a b q))

@@ -16,10 +16,10 @@ returns-in_err-y c =
 
 pub returns-then-eq : goal.returns-then-eq
 returns-then-eq c =
-    shared _ _ _ c.requires.0 (read_ok c.read.ensures (sym c.ok.ensures.value ∙ c.in_ok-x.was))
+    shared _ _ _ (read_ok c.read.ensures (sym c.ok.ensures.value ∙ c.in_ok-x.was))
     (read_ok c.read-2.ensures (sym c.ok-2.ensures.value ∙ c.in_ok-y.was)) (search rules)
 
 pub returns-else-eq : goal.returns-else-eq
 returns-else-eq c =
-    different _ _ _ c.requires.0 (read_ok c.read.ensures (sym c.ok.ensures.value ∙ c.in_ok-x.was))
+    different _ _ _ (read_ok c.read.ensures (sym c.ok.ensures.value ∙ c.in_ok-x.was))
     (read_ok c.read-2.ensures (sym c.ok-2.ensures.value ∙ c.in_ok-y.was)) (search rules)
