@@ -7,8 +7,7 @@ mod pointing;
 mod storing;
 mod wording;
 
-ghost use Rattle.std.specs.Prelude.{◌≡◌, ◌≤◌, length};
-ghost use Rattle.reading.specs.Answers.{code_of};
+ghost use Rattle.std.specs.Prelude.{◌≤◌, length};
 
 use failing::{Failure, failed};
 use reading::{Answer, Code};
@@ -23,10 +22,10 @@ fn load<R: Files + AllocGlobal>(rt: &R, path: &str) -> io::Result<Vec<u8>> {
     Ok(bytes)
 }
 
-// Reading, with what its answer means for a caller: program and list lie within their buffers, and a bad place in a text that is not too long.
+// Reading, with what its answer means for a caller: program and list lie within their buffers, and a bad place within the text.
 fn read_into(text: &[u8], program: &mut [u8], list: &mut [u8]) -> Answer
     ensures program_in_bounds { (result.program ≤ length program.new) × (result.names ≤ length list.new) }
-    ensures place_in_bounds { (result.place ≤ length text.now) × (code_of result.code ≡ 8 → length text.now ≤ 65536) }
+    ensures place_in_bounds { result.place ≤ length text.now }
 {
     reading::read(text, program, list)
 }

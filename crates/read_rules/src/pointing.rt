@@ -29,8 +29,7 @@ fn begins(text: &[u8], at: usize) -> bool
 }
 
 fn line_of(text: &[u8], place: usize) -> Line<'_>
-    requires text_len_bound { length text.now ≤ 65536 }
-    requires place_in_bounds { place ≤ length text.now }
+    requires { place ≤ length text.now }
     ensures { length result.before.now ≤ place }
 {
     // By hand: of what `filter` and `last` or `rfind` give, no proof was found that it lies within the range.
@@ -88,8 +87,7 @@ fn show<W: Write>(out: &mut W, line: Line<'_>) -> io::Result<()> {
 
 // The file, line and column of a place, what is wrong there, and the line.
 pub fn point_out<W: Write>(out: &mut W, file: &str, text: &[u8], place: usize) -> io::Result<()>
-    requires text_len_bound { length text.now ≤ 65536 }
-    requires place_in_bounds { place ≤ length text.now }
+    requires { place ≤ length text.now }
 {
     let line = line_of(text, place);
     let number = line.number;

@@ -21,8 +21,7 @@ fn broken_rule(class: Class) -> &'static str {
 
 // A token is bad by itself, or where it stands.
 pub fn wrong(text: &[u8], place: usize) -> &'static str
-    requires text_len_bound { length text.now ≤ 65536 }
-    requires place_in_bounds { place ≤ length text.now }
+    requires { place ≤ length text.now }
 {
     let Some(first) = text.get(place) else {
         return "the text ends early";
