@@ -18,7 +18,7 @@ struct Reached {
     state: State,
 }
 
-// Passes a symbol, which can stand in every side.
+// Passes a symbol, which can stand in every side. That the side has room is a clause here and below: not every state has it.
 fn pass_symbol(mut state: State) -> State
     requires { HasRoom state }
     ensures { (st : List ℕ) (k n : ℕ) → Ready state st → 1 ≤ k → k ≤ 3 → Tried state k n st (Some result) st }

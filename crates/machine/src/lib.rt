@@ -51,7 +51,7 @@ impl From<End> for Code {
     }
 }
 
-// A run that nothing refuses.
+// A run that nothing refuses. The arguments of `run` go on as they are: a struct of them would be made once, and taken apart at once.
 fn run_checked(
     program: &[u8],
     field: &mut [u8],

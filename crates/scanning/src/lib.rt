@@ -9,7 +9,8 @@ ghost use Rattle.scanning.specs.State.{field_at, calm, Good, Next, Advanced, Roo
 use elements::Cursor;
 
 // What is before the gap is field[..lo], what is behind it field[hi..]. The open calls before the gap are noted in calls[..depth], the call
-// brackets behind it, up to `read`, in calls[top..], each by its place.
+// brackets behind it, up to `read`, in calls[top..], each by its place. What holds of it are clauses (Good, Stands): they are data, and a ghost
+// field's fact has one proof at most.
 #[derive(Clone, Copy)]
 pub struct Spread {
     pub lo: usize,
