@@ -84,6 +84,9 @@ fn kept(kind: u8, variables: usize) -> usize
 }
 
 // Puts one element, if it is good.
+// Stack and buffer stay two slices of any length, as callers of `enter` may lend them: a struct of arrays would ask for more, and one of
+// slices would have to say in each contract that its slices stay the ones that were lent. `Able` stays a clause: it holds which reader of
+// the definition this one stands for, a choice, and a ghost field may have one proof at most.
 pub fn put(reader: Reader, e: Element, stack: &mut [u8], buf: &mut [u8]) -> Option<Reader>
     requires { Able reader stack.old buf.old × (number_of e < 256 ^ body (kind_of e)) }
     ensures { Onward (put_all (element (kind_of e) (number_of e) ∷ [])) reader stack.old buf.old result stack.new buf.new }
