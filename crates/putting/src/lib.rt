@@ -195,6 +195,7 @@ fn put_characters(
 {
     let mut i = from;
     let mut at = reader;
+    // Where the next character stands is known only behind a run, so no range has the places.
     while i < last {
         let b = text[i];
         let next = put(at, character(b), stack, buf)?;
