@@ -8,8 +8,7 @@ ghost use Rattle.elements.specs.Bytes.{kind_of, number_of, digits};
 ghost use Rattle.text.specs.Tokens.{quoted};
 ghost use Rattle.text.specs.Reading.{element, put_all, type_of, is_sign, entering};
 ghost use Rattle.tokens.specs.Lexemes.{characters_of, token_of};
-ghost use Rattle.putting.specs.Putting.{phase_next, kept_count, Written, past_character, Closes, further_by, Sure, Runs, braced, signing, making_within, making_header, Entered};
-ghost use Rattle.putting.specs.Output.{Prepared, Goes};
+ghost use Rattle.putting.specs.Putting.{phase_next, kept_count, Written, Able, Onward, past_character, Closes, further_by, Sure, Runs, braced, signing, making_within, making_header, Entered};
 
 use elements::Element;
 use taking::State;
@@ -34,15 +33,6 @@ pub struct Reader {
     pub variables: usize,
     pub state: State,
     pub len: usize,
-}
-
-// A reader with the stack of its check, and the buffer of its bytes. `Prepared` stays a clause: it holds which reader of the definition this
-// one stands for, a choice, and a ghost field may have one proof at most.
-#[derive(Drop)]
-pub struct Output {
-    pub reader: Reader,
-    pub stack: [u8; 400],
-    pub buf: [u8; 65536],
 }
 
 // A number's n bytes, the low byte first.
@@ -93,6 +83,25 @@ fn kept(kind: u8, variables: usize) -> usize
     }
 }
 
+// Puts one element, if it is good.
+// Stack and buffer stay two slices of any length, as callers of `enter` may lend them: a struct of arrays would ask for more, and one of
+// slices would have to say in each contract that its slices stay the ones that were lent. `Able` stays a clause: it holds which reader of
+// the definition this one stands for, a choice, and a ghost field may have one proof at most.
+pub fn put(reader: Reader, e: Element, stack: &mut [u8], buf: &mut [u8]) -> Option<Reader>
+    requires { Able reader stack.old buf.old × (number_of e < 256 ^ body (kind_of e)) }
+    ensures { Onward (put_all (element (kind_of e) (number_of e) ∷ [])) reader stack.old buf.old result stack.new buf.new }
+{
+    let state = taking::take(reader.state, e, stack).ok()?;
+    let kind = elements::kind_of(e);
+    Some(Reader {
+        phase: phase_after(kind, reader.phase),
+        variables: kept(kind, reader.variables),
+        state,
+        len: write(buf, reader.len, kind, elements::number_of(e)),
+        ..reader
+    })
+}
+
 fn character(b: u8) -> Element
     ensures { (kind_of result ≡ 1) × (number_of result ≡ b) × (b < 256) }
 {
@@ -123,6 +132,13 @@ fn further(mut reader: Reader, n: usize) -> Reader
     reader
 }
 
+// How far characters were put, and where reading stands then.
+#[derive(Clone, Copy)]
+struct Run {
+    at: usize,
+    reader: Reader,
+}
+
 // How many characters surely are good: as far as the string, the side and the buffer have room.
 fn sure(reader: Reader, limit: usize, bytes: usize, left: usize) -> usize
     ensures { Sure reader.state.count reader.len limit bytes left result }
@@ -130,6 +146,91 @@ fn sure(reader: Reader, limit: usize, bytes: usize, left: usize) -> usize
     let side = limit.saturating_sub(reader.state.count);
     let space = bytes.saturating_sub(reader.len) / 2;
     left.min(side).min(space)
+}
+
+// Puts characters that surely are good, up to the next quote.
+fn put_run(text: &[u8], from: usize, last: usize, quote: u8, reader: Reader, buf: &mut [u8]) -> Run
+    requires { Closes text.now quote from last }
+    ensures { (from ≤ result.at) × Runs text.now quote last from reader buf.old result.at result.reader buf.new }
+{
+    let none = Run { at: from, reader };
+    let part = reader.state.part;
+    if !taking::between(taking::LEFT, taking::RIGHT, part) {
+        return none;
+    }
+    let n = sure(reader, taking::limit_of(part), buf.len(), last - from);
+    if n == 0 {
+        return none;
+    }
+    let len = reader.len;
+    for k in 0..n {
+        let b = text[from + k];
+        if b == quote {
+            return Run {
+                at: from + k,
+                reader: further(reader, k),
+            };
+        }
+        buf[len + 2 * k] = kinds::CHARACTER;
+        buf[len + 2 * k + 1] = b;
+    }
+    Run {
+        at: from + n,
+        reader: further(reader, n),
+    }
+}
+
+// Puts the characters of a string from `from` up to its closing quote at `last`.
+fn put_characters(
+    text: &[u8],
+    from: usize,
+    last: usize,
+    quote: u8,
+    reader: Reader,
+    stack: &mut [u8],
+    buf: &mut [u8],
+) -> Option<Reader>
+    requires { Able reader stack.old buf.old × Closes text.now quote from last }
+    ensures { Onward (put_all (map (element 1) (characters_of (quoted quote false (drop from text.now))))) reader stack.old buf.old result stack.new buf.new }
+{
+    let mut i = from;
+    let mut at = reader;
+    // Where the next character stands is known only behind a run, so no range has the places.
+    while i < last {
+        let b = text[i];
+        let next = put(at, character(b), stack, buf)?;
+        let run = put_run(text, past_character(i, b, quote), last, quote, next, buf);
+        at = run.reader;
+        i = run.at;
+    }
+    Some(at)
+}
+
+// A closing brace ends a sentence whose semicolon was left out, and the function.
+fn put_brace(reader: Reader, stack: &mut [u8], buf: &mut [u8]) -> Option<Reader>
+    requires { Able reader stack.old buf.old }
+    ensures { Onward braced reader stack.old buf.old result stack.new buf.new }
+{
+    if reader.state.part != taking::RIGHT {
+        return put(reader, Element::FunctionEnd, stack, buf);
+    }
+    let next = put(reader, Element::SentenceEnd, stack, buf)?;
+    put(next, Element::FunctionEnd, stack, buf)
+}
+
+fn put_sign(reader: Reader, sign: u8, stack: &mut [u8], buf: &mut [u8]) -> Option<Reader>
+    requires { Able reader stack.old buf.old }
+    ensures { Onward (signing sign) reader stack.old buf.old result stack.new buf.new }
+{
+    match sign {
+        b'(' => put(reader, Element::Open, stack, buf),
+        b')' => put(reader, Element::Close, stack, buf),
+        b'>' => put(reader, Element::Return, stack, buf),
+        b'=' => put(reader, Element::Equals, stack, buf),
+        b';' => put(reader, Element::SentenceEnd, stack, buf),
+        b'}' => put_brace(reader, stack, buf),
+        _ => None,
+    }
 }
 
 // A variable by its letter.
@@ -140,6 +241,50 @@ fn variable(letter: u8, number: u32) -> Element
         b's' => Element::SVariable(number),
         b't' => Element::TVariable(number),
         _ => Element::EVariable(number),
+    }
+}
+
+// What a token makes inside a function's braces; its name or variable has this number.
+fn put_within(
+    text: &[u8],
+    at: usize,
+    lexeme: Lexeme,
+    number: u32,
+    reader: Reader,
+    stack: &mut [u8],
+    buf: &mut [u8],
+) -> Option<Reader>
+    requires { Able reader stack.old buf.old × (at < length text.now) × Entered text.now at lexeme.token lexeme.end number }
+    ensures { Onward (making_within (token_of text.now at lexeme.token) number) reader stack.old buf.old result stack.new buf.new }
+{
+    match lexeme.token {
+        Token::Gap => None,
+        Token::Malformed => None,
+        Token::Name => put(reader, Element::Name(number), stack, buf),
+        Token::Call => put(reader, Element::Call(number), stack, buf),
+        Token::Macrodigit(v) => put(reader, macrodigit(v), stack, buf),
+        Token::String => {
+            put_characters(text, at + 1, lexeme.end - 1, text[at], reader, stack, buf)
+        }
+        Token::Variable(_, _) => put(reader, variable(text[at], number), stack, buf),
+        Token::Sign => put_sign(reader, text[at], stack, buf),
+    }
+}
+
+// A function's name makes its header.
+fn put_header(
+    token: Token,
+    number: u32,
+    reader: Reader,
+    stack: &mut [u8],
+    buf: &mut [u8],
+) -> Option<Reader>
+    requires { Able reader stack.old buf.old × (number < 65536) }
+    ensures { (s : List ℕ) (at : ℕ) → Onward (making_header (token_of s at token) number) reader stack.old buf.old result stack.new buf.new }
+{
+    match token {
+        Token::Name => put(reader, Element::Header(number), stack, buf),
+        _ => None,
     }
 }
 
@@ -154,145 +299,40 @@ fn is_sign(token: Token, byte: u8, sign: u8) -> bool
     }
 }
 
-impl Output {
-    // Puts one element, if it is good.
-    pub fn put(&mut self, e: Element) -> Option<()>
-        requires { Prepared self.old × (number_of e < 256 ^ body (kind_of e)) }
-        ensures { Goes (put_all (element (kind_of e) (number_of e) ∷ [])) self.old result self.new }
-    {
-        let reader = self.reader;
-        let state = taking::take(reader.state, e, &mut self.stack).ok()?;
-        let kind = elements::kind_of(e);
-        self.reader = Reader {
-            phase: phase_after(kind, reader.phase),
-            variables: kept(kind, reader.variables),
-            state,
-            len: write(&mut self.buf, reader.len, kind, elements::number_of(e)),
-            ..reader
-        };
-        Some(())
-    }
-
-    // Puts characters that surely are good, up to the next quote; how far they reach.
-    fn put_run(&mut self, text: &[u8], from: usize, last: usize, quote: u8) -> usize
-        requires { Closes text.now quote from last }
-        ensures { (from ≤ result) × (self.new.stack ≡ self.old.stack) × Runs text.now quote last from self.old.reader self.old.buf result self.new.reader self.new.buf }
-    {
-        let reader = self.reader;
-        let part = reader.state.part;
-        if !taking::between(taking::LEFT, taking::RIGHT, part) {
-            return from;
-        }
-        let n = sure(reader, taking::limit_of(part), self.buf.len(), last - from);
-        if n == 0 {
-            return from;
-        }
-        for k in 0..n {
-            let b = text[from + k];
-            if b == quote {
-                self.reader = further(reader, k);
-                return from + k;
+// One token more, whose name or variable has this number.
+pub fn enter(
+    text: &[u8],
+    at: usize,
+    lexeme: Lexeme,
+    number: u32,
+    reader: Reader,
+    stack: &mut [u8],
+    buf: &mut [u8],
+) -> Option<Reader>
+    requires { Able reader stack.old buf.old × (at < length text.now) × Entered text.now at lexeme.token lexeme.end number }
+    ensures { Onward (entering (token_of text.now at lexeme.token) number) reader stack.old buf.old result stack.new buf.new }
+{
+    let token = lexeme.token;
+    match reader.phase {
+        Phase::Inside => put_within(text, at, lexeme, number, reader, stack, buf),
+        Phase::Named => {
+            if !is_sign(token, text[at], b'{') {
+                return None;
             }
-            let at = reader.len + 2 * k;
-            self.buf[at] = kinds::CHARACTER;
-            self.buf[at + 1] = b;
+            Some(Reader {
+                phase: Phase::Inside,
+                ..reader
+            })
         }
-        self.reader = further(reader, n);
-        from + n
-    }
-
-    // Puts the characters of a string from `from` up to its closing quote at `last`.
-    fn put_characters(&mut self, text: &[u8], from: usize, last: usize, quote: u8) -> Option<()>
-        requires { Prepared self.old × Closes text.now quote from last }
-        ensures { Goes (put_all (map (element 1) (characters_of (quoted quote false (drop from text.now))))) self.old result self.new }
-    {
-        let mut i = from;
-        while i < last {
-            let b = text[i];
-            self.put(character(b))?;
-            i = self.put_run(text, past_character(i, b, quote), last, quote);
-        }
-        Some(())
-    }
-
-    // A closing brace ends a sentence whose semicolon was left out, and the function.
-    fn put_brace(&mut self) -> Option<()>
-        requires { Prepared self.old }
-        ensures { Goes braced self.old result self.new }
-    {
-        if self.reader.state.part != taking::RIGHT {
-            return self.put(Element::FunctionEnd);
-        }
-        self.put(Element::SentenceEnd)?;
-        self.put(Element::FunctionEnd)
-    }
-
-    fn put_sign(&mut self, sign: u8) -> Option<()>
-        requires { Prepared self.old }
-        ensures { Goes (signing sign) self.old result self.new }
-    {
-        match sign {
-            b'(' => self.put(Element::Open),
-            b')' => self.put(Element::Close),
-            b'>' => self.put(Element::Return),
-            b'=' => self.put(Element::Equals),
-            b';' => self.put(Element::SentenceEnd),
-            b'}' => self.put_brace(),
-            _ => None,
-        }
-    }
-
-    // What a token makes inside a function's braces; its name or variable has this number.
-    fn put_within(&mut self, text: &[u8], at: usize, lexeme: Lexeme, number: u32) -> Option<()>
-        requires { Prepared self.old × (at < length text.now) × Entered text.now at lexeme.token lexeme.end number }
-        ensures { Goes (making_within (token_of text.now at lexeme.token) number) self.old result self.new }
-    {
-        match lexeme.token {
-            Token::Gap => None,
-            Token::Malformed => None,
-            Token::Name => self.put(Element::Name(number)),
-            Token::Call => self.put(Element::Call(number)),
-            Token::Macrodigit(v) => self.put(macrodigit(v)),
-            Token::String => self.put_characters(text, at + 1, lexeme.end - 1, text[at]),
-            Token::Variable(_, _) => self.put(variable(text[at], number)),
-            Token::Sign => self.put_sign(text[at]),
-        }
-    }
-
-    // A function's name makes its header.
-    fn put_header(&mut self, token: Token, number: u32) -> Option<()>
-        requires { Prepared self.old × (number < 65536) }
-        ensures { (s : List ℕ) (at : ℕ) → Goes (making_header (token_of s at token) number) self.old result self.new }
-    {
-        match token {
-            Token::Name => self.put(Element::Header(number)),
-            _ => None,
-        }
-    }
-
-    // One token more, whose name or variable has this number.
-    pub fn enter(&mut self, text: &[u8], at: usize, lexeme: Lexeme, number: u32) -> Option<()>
-        requires { Prepared self.old × (at < length text.now) × Entered text.now at lexeme.token lexeme.end number }
-        ensures { Goes (entering (token_of text.now at lexeme.token) number) self.old result self.new }
-    {
-        let token = lexeme.token;
-        match self.reader.phase {
-            Phase::Inside => self.put_within(text, at, lexeme, number),
-            Phase::Named => {
-                if !is_sign(token, text[at], b'{') {
-                    return None;
-                }
-                self.reader.phase = Phase::Inside;
-                Some(())
+        Phase::Between => {
+            if is_sign(token, text[at], b';') {
+                return Some(Reader {
+                    phase: Phase::Owed,
+                    ..reader
+                });
             }
-            Phase::Between => {
-                if is_sign(token, text[at], b';') {
-                    self.reader.phase = Phase::Owed;
-                    return Some(());
-                }
-                self.put_header(token, number)
-            }
-            _ => self.put_header(token, number),
+            put_header(token, number, reader, stack, buf)
         }
+        _ => put_header(token, number, reader, stack, buf),
     }
 }

@@ -8,14 +8,13 @@ ghost use Rattle.text.specs.Answers.{outcome, fitted, read_text};
 ghost use Rattle.names.specs.Names.{named};
 ghost use Rattle.names.specs.Entries.{firsts};
 ghost use Rattle.tokens.specs.Lexemes.{Proper};
-ghost use Rattle.putting.specs.Putting.{Filled};
-ghost use Rattle.putting.specs.Output.{Prepared};
+ghost use Rattle.putting.specs.Putting.{Filled, Able};
 ghost use Rattle.reading.specs.Reading.{begun, gaps, Spaced, Sentence, Met, Finishing, ToldBy};
 ghost use Rattle.reading.specs.Answers.{code_of, reply_of};
 
 use elements::Element;
 use names::Names;
-use putting::{Output, Phase, Reader};
+use putting::{Phase, Reader};
 use taking::State;
 use tokens::Token;
 use variables::Variables;
@@ -77,15 +76,15 @@ fn meet(at: usize, end: usize, token: Token, names: &mut Names, variables: &mut 
 }
 
 // The end of the text ends the program, but not behind a semicolon that parts functions. An error is a place.
-fn finish(output: &mut Output, end: usize) -> Result<usize, usize>
-    requires { Prepared output.old }
-    ensures { Finishing end output.old.reader output.old.stack output.old.buf output.new.buf result }
+fn finish(reader: Reader, end: usize, stack: &mut [u8], buf: &mut [u8]) -> Result<usize, usize>
+    requires { Able reader stack.old buf.old }
+    ensures { Finishing end reader stack.old buf.old buf.new result }
 {
-    if output.reader.phase == Phase::Owed {
+    if reader.phase == Phase::Owed {
         return Err(end);
     }
-    match output.put(Element::ProgramEnd) {
-        Some(()) => Ok(output.reader.len),
+    match putting::put(reader, Element::ProgramEnd, stack, buf) {
+        Some(last) => Ok(last.len),
         None => Err(end),
     }
 }
@@ -97,35 +96,33 @@ fn is_gap(token: Token) -> bool
 }
 
 // Before the first token.
-fn begin() -> Output
-    ensures { result.reader ≡ begun }
+fn begin() -> Reader
+    ensures { result ≡ begun }
 {
-    Output {
-        reader: Reader {
-            phase: Phase::Free,
-            names: 0,
-            variables: 0,
-            state: State {
-                part: taking::OUTSIDE,
-                depth: 0,
-                count: 0,
-                set: kinds::Slots::NONE,
-                number: 0,
-            },
-            len: 0,
+    Reader {
+        phase: Phase::Free,
+        names: 0,
+        variables: 0,
+        state: State {
+            part: taking::OUTSIDE,
+            depth: 0,
+            count: 0,
+            set: kinds::Slots::NONE,
+            number: 0,
         },
-        stack: [0; 400],
-        buf: [0; 65536],
+        len: 0,
     }
 }
 
-// Reads the text of the names, token by token; the bytes of the program, or the place where the text is bad.
-fn say(names: &mut Names, output: &mut Output) -> Result<usize, usize>
-    requires { (names.old.count ≡ 0) × (output.old.reader ≡ begun) }
-    ensures { ToldBy names.old names.new output.new.buf result }
+// Reads the text of the names, token by token, into a buffer; the bytes of the program, or the place where the text is bad.
+fn say(names: &mut Names, buf: &mut [u8]) -> Result<usize, usize>
+    requires { (names.old.count ≡ 0) × (length buf.old ≡ 65536) }
+    ensures { ToldBy names.old names.new buf.new result }
 {
     let text = names.text;
     let mut variables = Variables::new(text);
+    let mut stack = [0u8; 400];
+    let mut reader = begin();
     let mut at: usize = 0;
     // Where the next lexeme begins is known only behind this one, so no range has the places.
     while at < text.len() {
@@ -135,27 +132,31 @@ fn say(names: &mut Names, output: &mut Output) -> Result<usize, usize>
             continue;
         }
         let number = meet(at, lexeme.end, lexeme.token, names, &mut variables);
-        output.reader.names = names.count;
-        output.reader.variables = variables.count;
-        let Some(()) = output.enter(text, at, lexeme, number) else {
+        let known = Reader {
+            names: names.count,
+            variables: variables.count,
+            ..reader
+        };
+        let Some(next) = putting::enter(text, at, lexeme, number, known, &mut stack, buf) else {
             return Err(at);
         };
-        variables.keep(output.reader.variables);
+        variables.keep(next.variables);
+        reader = next;
         at = lexeme.end;
     }
-    finish(output, text.len())
+    finish(reader, text.len(), &mut stack, buf)
 }
 
 // Hands over what was read, if there is room for it.
-fn give(names: &Names, output: &Output, len: usize, program: &mut [u8], list: &mut [u8]) -> Answer
-    requires { length program.old ≤ 65536 }
-    ensures { (es : List Bytes) → Filled output.now.buf (join es) len → outcome (reply_of result) program.new list.new ≡ fitted (says es (named names.now.text.now (firsts names.now.entries) names.now.count)) program.old list.old }
+fn give(names: &Names, buf: &[u8], len: usize, program: &mut [u8], list: &mut [u8]) -> Answer
+    requires { (length buf.now ≡ 65536) × (length program.old ≤ 65536) }
+    ensures { (es : List Bytes) → Filled buf.now (join es) len → outcome (reply_of result) program.new list.new ≡ fitted (says es (named names.now.text.now (firsts names.now.entries) names.now.count)) program.old list.old }
 {
     let size = 16 * names.count;
     if program.len() < len || list.len() < size {
         return refused(Code::NoRoom, 0);
     }
-    moving::copy(&output.buf, 0, len, program, 0);
+    moving::copy(buf, 0, len, program, 0);
     moving::clear(program, len, program.len());
     names.write_list(list);
     Answer {
@@ -183,9 +184,9 @@ fn read_sized(text: &[u8], program: &mut [u8], list: &mut [u8]) -> Answer
     ensures { outcome (reply_of result) program.new list.new ≡ fitted (said text.now) program.old list.old }
 {
     let mut names = Names::new(text);
-    let mut output = begin();
-    match say(&mut names, &mut output) {
-        Ok(len) => give(&names, &output, len, program, list),
+    let mut buf = [0u8; 65536];
+    match say(&mut names, &mut buf) {
+        Ok(len) => give(&names, &buf, len, program, list),
         Err(place) => refused(Code::BadText, place),
     }
 }

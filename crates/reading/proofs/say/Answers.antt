@@ -1,5 +1,7 @@
 use mathlib.Core.Path.{refl, sym, ◌∙◌}
+use Prim.Native.Nat.{ℕ}
 use native.Mathlib.Omega.{arith}
+use lib.ListN.{length-replicate}
 use Rattle.putting.proofs.Putting.{led, barred}
 use Rattle.reading.specs.Reading.{begun, bad}
 use Rattle.reading.proofs.Saying.{reads_first, reads_able, reads_gap, known_able, known_entered, turn_bad, turn, saying_end, meeting_of}
@@ -9,9 +11,9 @@ pub loop-at-init : goal.loop-at-init
 unfolding begun
 loop-at-init c =
     record {
-      reads = rw c.requires.1 (reads_first _ _ _ _ _ _ _ (omega arith) (omega arith));
-      names_are = rw c.requires.1 (sym c.requires.0);
-      variables_are = rw c.requires.1 (sym c.new-variables.ensures.count);
+      reads = rw c.begin-reader.ensures (reads_first _ _ _ _ _ _ _ (omega (arith, length-replicate {A = ℕ} 400 0)) (omega (arith, c.requires.1)));
+      names_are = rw c.begin-reader.ensures (sym c.requires.0);
+      variables_are = rw c.begin-reader.ensures (sym c.new-variables.ensures.count);
       names_text = refl;
       variables_text = c.new-variables.ensures.text;
     }
@@ -30,7 +32,7 @@ loop-at-preserved-then-is_gap c =
 pub enter-requires : goal.enter-requires
 enter-requires c =
     let i = c.loop-at.invariant in
-    let m = meeting_of c.meet-number.ensures c.loop-at.output.reader _ i.names_text i.names_are i.variables_are in
+    let m = meeting_of c.meet-number.ensures c.loop-at.reader _ i.names_text i.names_are i.variables_are in
     let g = sym c.is_gap.ensures ∙ c.if-is_gap.false in (
       known_able i.reads c.lex-lexeme.result c.lex-lexeme.ensures c.loop-at-test.true g m,
       c.loop-at-test.true,
@@ -40,7 +42,7 @@ enter-requires c =
 pub returns-in_default : goal.returns-in_default
 returns-in_default c =
     let i = c.loop-at.invariant in
-    let m = meeting_of c.meet-number.ensures c.loop-at.output.reader _ i.names_text i.names_are i.variables_are in
+    let m = meeting_of c.meet-number.ensures c.loop-at.reader _ i.names_text i.names_are i.variables_are in
     let g = sym c.is_gap.ensures ∙ c.if-is_gap.false in
     record {
       saying = bad (turn_bad i.reads c.lex-lexeme.result c.lex-lexeme.ensures c.loop-at-test.true g m (barred c.in_default.ensures));
@@ -50,7 +52,7 @@ returns-in_default c =
 pub loop-at-preserved : goal.loop-at-preserved
 loop-at-preserved c =
     let i = c.loop-at.invariant in
-    let m = meeting_of c.meet-number.ensures c.loop-at.output.reader _ i.names_text i.names_are i.variables_are in
+    let m = meeting_of c.meet-number.ensures c.loop-at.reader _ i.names_text i.names_are i.variables_are in
     let g = sym c.is_gap.ensures ∙ c.if-is_gap.false in
     let d = led c.in-Some.ensures in
     record {

@@ -8,9 +8,9 @@ use Rattle.reading.proofs.say.Given as goal
 
 abbrev pub invariant-loop-at : goal.invariant-loop-at
 invariant-loop-at l = record {
-  reads : Reads l.text (firsts l.names.entries) (kinds l.variables.entries) (starts l.variables.entries) (sizes l.variables.entries) l.output.stack l.output.buf l.output.reader l.at;
-  names_are : l.output.reader.names ≡ l.names.count;
-  variables_are : l.output.reader.variables ≡ l.variables.count;
+  reads : Reads l.text (firsts l.names.entries) (kinds l.variables.entries) (starts l.variables.entries) (sizes l.variables.entries) l.stack l.buf l.reader l.at;
+  names_are : l.reader.names ≡ l.names.count;
+  variables_are : l.reader.variables ≡ l.variables.count;
   names_text : l.names.text ≡ l.initial.names.text;
   variables_text : l.variables.text ≡ l.names.text;
 }

@@ -1,6 +1,6 @@
 use mathlib.Core.Path.{refl, ◌∙◌, sym}
 use Rattle.putting.proofs.Making.{onward_as, enter_inside, enter_open, enter_shut, enter-part, enter_between, enter_header, fits_two}
-use Rattle.putting.proofs.Output.enter.Goals as goal
+use Rattle.putting.proofs.enter.Goals as goal
 
 pub returns-in-Inside : goal.returns-in-Inside
 returns-in-Inside c = onward_as (enter_inside _ _ c.in-Inside.is) c.put_within.ensures

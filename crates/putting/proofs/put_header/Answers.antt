@@ -1,7 +1,7 @@
 use borrow.Enum.Refused.{opened}
 use Rattle.meaning.specs.Elements.{body}
 use Rattle.putting.proofs.Making.{onward_as, heads, heads_none, not_name, name_heads}
-use Rattle.putting.proofs.Output.put_header.Goals as goal
+use Rattle.putting.proofs.put_header.Goals as goal
 
 pub put-requires : goal.put-requires
 unfolding body

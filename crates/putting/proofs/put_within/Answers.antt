@@ -3,7 +3,7 @@ use Rattle.tokens.specs.Lexemes.{token_of}
 use lib.ListN.{get_or}
 use Rattle.text.specs.Reading.{within}
 use Rattle.putting.proofs.Making.{onward_as, makes, makes_none, makes_sign, closes, entered_as, body_type}
-use Rattle.putting.proofs.Output.put_within.Goals as goal
+use Rattle.putting.proofs.put_within.Goals as goal
 
 pub put-requires : goal.put-requires
 unfolding body

@@ -2,7 +2,7 @@ use native.Mathlib.Omega.{arith}
 use Rattle.meaning.specs.Elements.{body}
 use Rattle.text.specs.Reading.{signed}
 use Rattle.putting.proofs.Making.{onward_as, sign_one, sign_brace, sign_none}
-use Rattle.putting.proofs.Output.put_sign.Goals as goal
+use Rattle.putting.proofs.put_sign.Goals as goal
 
 pub put-requires : goal.put-requires
 unfolding body
