@@ -1,12 +1,6 @@
-use mathlib.Core.Path.{refl}
-use native.Mathlib.Omega.{arith}
 use Rattle.building.proofs.Spans.{walk}
 use Rattle.building.proofs.Filling.{build_room, building_more, built}
 use Rattle.building.proofs.build.Goals as goal
-
-pub loop-at-init : goal.loop-at-init
-loop-at-init c =
-    record { upto = c.requires.in_program.0; whole = c.requires.whole; ready = c.requires.ready; long = refl; n_so = refl; so = refl }
 
 pub put_element-n-requires : goal.put_element-n-requires
 put_element-n-requires c =
@@ -17,30 +11,12 @@ put_element-n-requires c =
       program_in_bounds = build_room _ _ _ _ _ _ _ _ _ _ i _ w c.requires.room;
     }
 
-pub overflow_add-at : goal.overflow_add-at
-overflow_add-at c =
-    let i = c.loop-at.invariant in
-    let w = walk _ _ _ _ _ c.requires.in_program.1 c.loop-at-test.true i.whole i.ready _ c.length_of-len.ensures.0 in
-    let k = w.within in
-    omega arith
-
-pub loop-at-smaller : goal.loop-at-smaller
-loop-at-smaller c =
-    let i = c.loop-at.invariant in
-    let w = walk _ _ _ _ _ c.requires.in_program.1 c.loop-at-test.true i.whole i.ready _ c.length_of-len.ensures.0 in
-    let k = w.within in
-    let s = w.some in
-    omega arith
-
 pub loop-at-preserved : goal.loop-at-preserved
 loop-at-preserved c =
     let i = c.loop-at.invariant in
     let w = walk _ _ _ _ _ c.requires.in_program.1 c.loop-at-test.true i.whole i.ready _ c.length_of-len.ensures.0 in
     let u = c.put_element-n.ensures in
     building_more _ _ _ _ _ _ _ _ _ _ i _ w _ _ u.0 u.1 c.put_element-n.auto.out
-
-pub shape_of-out : goal.shape_of-out
-shape_of-out c = c.loop-at.invariant.long
 
 pub returns : goal.returns
 returns c = built _ _ _ _ _ _ _ _ _ _ c.loop-at.invariant c.loop-at-test.false c.requires.in_program.1

@@ -1,13 +1,7 @@
-use mathlib.Core.Path.{refl}
 use native.Mathlib.Omega.{arith}
 use Rattle.building.proofs.Spans.{walk}
 use Rattle.building.proofs.Filling.{on_room, note_room, noting_more, noted, call-span}
 use Rattle.building.proofs.note.Goals as goal
-
-pub loop-i-init : goal.loop-i-init
-loop-i-init c =
-    let g = c.requires.given in
-    (g.arg, record { upto = g.upto; whole = c.requires.whole; ready = g.ready; reach = refl; index = refl; long = refl; so = refl })
 
 pub note_one-k-requires : goal.note_one-k-requires
 note_one-k-requires c =
@@ -30,30 +24,12 @@ overflow_add-at c =
     let e = c.span_of-at.ensures in
     omega arith
 
-pub overflow_add-i : goal.overflow_add-i
-overflow_add-i c =
-    let i = c.loop-i.invariant.1 in
-    let w = walk _ _ _ _ _ c.requires.given.fits c.loop-i-test.true i.whole i.ready _ c.length_of-len.ensures.0 in
-    let k = w.within in
-    omega arith
-
-pub loop-i-smaller : goal.loop-i-smaller
-loop-i-smaller c =
-    let i = c.loop-i.invariant.1 in
-    let w = walk _ _ _ _ _ c.requires.given.fits c.loop-i-test.true i.whole i.ready _ c.length_of-len.ensures.0 in
-    let k = w.within in
-    let s = w.some in
-    omega arith
-
 pub loop-i-preserved : goal.loop-i-preserved
 loop-i-preserved c =
     let i = c.loop-i.invariant.1 in
     let w = walk _ _ _ _ _ c.requires.given.fits c.loop-i-test.true i.whole i.ready _ c.length_of-len.ensures.0 in
     let u = c.note_one-k.ensures in
     (c.loop-i.invariant.0, rw c.span_of-at.ensures (noting_more _ _ _ _ _ _ _ _ _ _ _ _ i _ w _ _ u.0 u.1))
-
-pub shape_of-calls : goal.shape_of-calls
-shape_of-calls c = c.loop-i.invariant.1.long
 
 pub returns : goal.returns
 returns c = noted _ _ _ _ _ _ _ _ _ _ _ _ c.loop-i.invariant.1 c.loop-i-test.false c.requires.given.fits

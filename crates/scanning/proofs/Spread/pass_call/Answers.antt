@@ -1,5 +1,5 @@
 use native.Mathlib.Omega.{arith}
-use Rattle.scanning.proofs.Scan.{may_move, may_note, in_notes, open_same, open_more, open_good, open_standing}
+use Rattle.scanning.proofs.Scan.{may_move, open_same, open_more, open_good, open_standing}
 use mathlib.Core.Path.{refl}
 use Rattle.scanning.proofs.Spread.pass_call.Goals as goal
 
@@ -7,14 +7,6 @@ pub shift-requires : goal.shift-requires
 shift-requires c =
     let (down, within) = may_move _ _ _ _ _ _ _ _ c.requires.good c.requires.reached.0 c.requires.reached.1 in
     record { n_in_bounds = within; n_in_bounds_2 = omega arith }
-
-pub overflow_cast-calls : goal.overflow_cast-calls
-overflow_cast-calls c =
-    let k = may_note _ _ _ _ _ _ _ _ c.requires.good c.requires.reached.0 c.requires.reached.1 c.requires.roomy.0 in
-    omega arith
-
-pub bounds-calls-depth : goal.bounds-calls-depth
-bounds-calls-depth c = in_notes _ _ _ _ _ _ _ _ c.requires.good c.requires.reached.0 c.requires.reached.1
 
 pub returns : goal.returns
 returns c =
