@@ -1,6 +1,6 @@
 -- A side measured, built and noted, element by element.
 use mathlib.Core.Path.{◌≡◌, refl, sym, ◌∙◌, ap, subst}
-use mathlib.Core.Bool.{Bool, true, false, ◌&&◌, cond}
+use mathlib.Core.Bool.{true, false, ◌&&◌, cond}
 use mathlib.Core.Logic.{◌⊎◌, inl, inr}
 use Rattle.std.specs.Prelude.{Some, None}
 use Rattle.building.specs.declared.Extent.{Extent}
@@ -11,7 +11,7 @@ use native.Mathlib.Numerals.{add-one}
 use lib.ListN.{length, get_or, take, drop, set, length-set}
 use lib.Seq.{sets}
 use lib.Dec.{eqb, leb}
-use borrow.Author.Tests.{eqb-true, ne_eqb, lt-leb}
+use borrow.Author.Tests.{eqb-true, lt-leb}
 use Rattle.meaning.specs.Elements.{Element, size, is_variable}
 use Rattle.meaning.proofs.Truth.{never, Seen, is_true, is_false, see}
 use Rattle.meaning.proofs.Cutting.{Whole, size-append}
@@ -205,13 +205,6 @@ module _ (p : List ℕ) (from to : ℕ) (f b : List ℕ) (start : ℕ) (calls₀
   pub noted : to ≤ i → to ≤ length p → calls ≡ sets calls₀ first (placed start b (side_of p from to))
   unfolding placed
   noted h l = ap (λ (z : List Element). sets calls k (placed at b z)) (sym (side_end p i to h l)) ∙ s.so
-
--- TESTS ON KINDS
-pub is_call_yes : (k : ℕ) → k ≡ 6 → eqb k 6 ≡ is_call (k ∷ [])
-is_call_yes k h = rw h
-
-pub is_call_else : (k : ℕ) (r : Bool) → (k ≡ 6 → ⊥) → r ≡ eqb k 7 → r ≡ is_call (k ∷ [])
-is_call_else k r n e = rw (ne_eqb k 6 n) e
 
 -- a call bracket gives itself
 pub call-span : (p : List ℕ) (at to : ℕ) (f b : List ℕ) (len : ℕ) → Walk p at to f b len → is_call (get_or p at 0 ∷ []) ≡ true → span_of b (take len (drop at p)) ≡ len

@@ -52,9 +52,6 @@ module _ {left : List ℕ} {at : ℕ} (l : LeftAt left at) where
   unfolding left_proper
   left_kind = kind_here left at l.inside
 
-  same_there : (e : List ℕ) (es : List (List ℕ)) → elements (drop at left) ≡ e ∷ es → there left at l.inside ≡ e
-  same_there e es q = cc (cut_here left at l.inside, q)
-
   pub record NamedAt : Type 0 where
     pub v : Variable (get_or left at 0) (get_or left (at + 1) 0)
     pub long : at + 1 < length left

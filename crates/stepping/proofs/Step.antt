@@ -5,7 +5,7 @@ use mathlib.Core.Option.{Option, none, some}
 use mathlib.Core.List.{List, [], ◌∷◌, ◌++◌, append_assoc}
 use Prim.Native.Nat.{ℕ, ◌+◌, ◌-◌, ◌*◌, ◌≤◌, ◌<◌}
 use native.Mathlib.Omega.{arith}
-use lib.ListN.{length, get_or, take, drop, length-take, length-drop}
+use lib.ListN.{length, get_or, take, drop, length-drop}
 use lib.Seq.{sets, length-sets}
 use Rattle.meaning.specs.Elements.{Element, elements, join, size, among, is_variable}
 use Rattle.meaning.specs.Matching.{put}

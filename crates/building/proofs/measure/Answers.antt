@@ -1,4 +1,3 @@
-use native.Mathlib.Omega.{arith}
 use mathlib.Core.Path.{refl, sym, ◌∙◌}
 use Rattle.building.proofs.Spans.{walk}
 use Rattle.building.proofs.Filling.{measuring_start, measured_no, measuring_more, measured_all}
@@ -14,39 +13,11 @@ span_of-span-requires c =
     let w = walk _ _ _ _ _ c.requires.given.fits c.loop-at-test.true i.whole i.ready _ c.length_of-len.ensures.0 in
     record { arg = c.loop-at.invariant.0; known = w.known }
 
-pub overflow_sub-limit : goal.overflow_sub-limit
-overflow_sub-limit c =
-    let i = c.loop-at.invariant.1 in
-    i.room
-
 pub returns-then-limit-size : goal.returns-then-limit-size
 returns-then-limit-size c =
     let i = c.loop-at.invariant.1 in
     let w = walk _ _ _ _ _ c.requires.given.fits c.loop-at-test.true i.whole i.ready _ c.length_of-len.ensures.0 in
     measured_no _ _ _ _ _ _ _ _ _ _ i _ w (rw (← c.span_of-span.ensures) c.if-limit-size.true)
-
-pub overflow_add-calls : goal.overflow_add-calls
-overflow_add-calls c =
-    let i = c.loop-at.invariant.1 in
-    let k = i.few in
-    let t = c.loop-at-test.true in
-    let f = c.requires.given.fits in
-    omega arith
-
-pub overflow_add-at : goal.overflow_add-at
-overflow_add-at c =
-    let i = c.loop-at.invariant.1 in
-    let w = walk _ _ _ _ _ c.requires.given.fits c.loop-at-test.true i.whole i.ready _ c.length_of-len.ensures.0 in
-    let k = w.within in
-    omega arith
-
-pub loop-at-smaller : goal.loop-at-smaller
-loop-at-smaller c =
-    let i = c.loop-at.invariant.1 in
-    let w = walk _ _ _ _ _ c.requires.given.fits c.loop-at-test.true i.whole i.ready _ c.length_of-len.ensures.0 in
-    let k = w.within in
-    let s = w.some in
-    omega arith
 
 pub loop-at-preserved : goal.loop-at-preserved
 loop-at-preserved c =

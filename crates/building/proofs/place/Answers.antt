@@ -2,22 +2,6 @@ use Rattle.building.proofs.Placing.{parts_long, value_inside, placed_all}
 use native.Mathlib.Omega.{arith}
 use Rattle.building.proofs.place.Goals as goal
 
-pub pivot_part-value-requires : goal.pivot_part-value-requires
-pivot_part-value-requires c =
-    let a = c.requires.in_program in
-    let h = c.requires.hi_le_at in
-    record {
-      from = c.args.side.from;
-      given = record {
-        upto = a.0;
-        fits = a.1;
-        arg = _;
-        ready = c.requires.ready;
-      };
-      whole = a.2;
-      pivot_is = a.3;
-    }
-
 pub fill-built-requires : goal.fill-built-requires
 fill-built-requires c =
     let a = c.requires.in_program in
@@ -31,21 +15,6 @@ fill-built-requires c =
       behind = q.after;
       room = (let z = parts_long _ _ _ _ _ _ _ _ _ _ _ h.0 h.1 q r in let y = k.0 in let x = k.1 in let w = h.1 in omega arith);
     }
-
-pub overflow_sub-v : goal.overflow_sub-v
-overflow_sub-v c =
-    let a = c.requires.in_program in
-    let q = c.pivot_part-value.ensures _ _ a.3 a.2 a.0 a.1 c.requires.ready in
-    q.value.0
-
-pub overflow_add-hi : goal.overflow_add-hi
-overflow_add-hi c =
-    let a = c.requires.in_program in
-    let r = c.requires.ready in
-    let q = c.pivot_part-value.ensures _ _ a.3 a.2 a.0 a.1 r in
-    let h = c.requires.hi_le_at in
-    let i = value_inside _ _ _ _ _ _ _ _ _ _ _ h.0 h.1 q r in
-    omega arith
 
 pub put_in-requires : goal.put_in-requires
 put_in-requires c =

@@ -1,7 +1,7 @@
 use mathlib.Core.Path.{refl, sym, ◌∙◌}
 use mathlib.Core.List.{◌∷◌, []}
 use native.Mathlib.Omega.{arith}
-use Rattle.building.proofs.Sides.{plain_piece, var_range, var_next, slot}
+use Rattle.building.proofs.Sides.{plain_piece, var_range, slot}
 use Rattle.building.proofs.Spans.{span_fixed, span_var}
 use Rattle.building.proofs.put_element.Goals as goal
 
@@ -17,12 +17,6 @@ returns-then-not-is_variable c =
     let n = (sym c.is_variable.ensures ∙ c.if-not-is_variable.true) in
     let u = c.put_part.ensures in
     (rw (← span_fixed _ _ _ _ _ k _ refl n) u.0, rw (plain_piece _ _ _ _ _ k _ refl n) u.1)
-
-pub bounds-program-at-2 : goal.bounds-program-at-2
-bounds-program-at-2 c =
-    let k = c.requires.known in
-    let v = (sym c.is_variable.ensures ∙ c.if-not-is_variable.false) in
-    var_next _ _ _ _ _ k _ refl v
 
 pub slot-slot-requires : goal.slot-slot-requires
 slot-slot-requires c =

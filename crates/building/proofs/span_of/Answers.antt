@@ -1,19 +1,13 @@
 use mathlib.Core.Path.{refl, sym, ◌∙◌}
 use mathlib.Core.List.{◌∷◌, []}
 use native.Mathlib.Omega.{arith}
-use Rattle.building.proofs.Sides.{var_range, var_next, slot}
+use Rattle.building.proofs.Sides.{var_range, slot}
 use Rattle.building.proofs.Spans.{span_fixed, span_var}
 use Rattle.building.proofs.span_of.Goals as goal
 
 pub returns-then-not-is_variable : goal.returns-then-not-is_variable
 returns-then-not-is_variable c =
     span_fixed _ _ _ _ _ c.requires.known _ refl (sym c.is_variable.ensures ∙ c.if-not-is_variable.true)
-
-pub bounds-program-at-2 : goal.bounds-program-at-2
-bounds-program-at-2 c =
-    let k = c.requires.known in
-    let v = (sym c.is_variable.ensures ∙ c.if-not-is_variable.false) in
-    var_next _ _ _ _ _ k _ refl v
 
 pub slot-slot-requires : goal.slot-slot-requires
 slot-slot-requires c =

@@ -10,19 +10,10 @@ use Rattle.checking_fields.proofs.pass_field.Goals as goal
 pub loop-c-init : goal.loop-c-init
 loop-c-init c = (begun _ _, refl)
 
-pub shape_of-stack-in_default : goal.shape_of-stack-in_default
-shape_of-stack-in_default c = c.loop-c.invariant.1
-
 pub returns-in_default : goal.returns-in_default
 returns-in_default c =
     let i = c.loop-c.invariant.0 in
     sym (ap check_of (⊎_elim (bad_kind i) (bad_cut i) (unread (rw c.in_default.is at c.read.ensures) c.loop-c-test.true)))
-
-pub depth_behind-requires : goal.depth_behind-requires
-depth_behind-requires c = omega (arith, c.loop-c-test.true, c.loop-c.invariant.0.deep, c.loop-c.invariant.1, c.requires)
-
-pub shape_of-stack-in_default-depth_behind : goal.shape_of-stack-in_default-depth_behind
-shape_of-stack-in_default-depth_behind c = c.depth_behind.auto.stack ∙ c.loop-c.invariant.1
 
 pub returns-in_default-depth_behind : goal.returns-in_default-depth_behind
 returns-in_default-depth_behind c =
@@ -39,14 +30,8 @@ loop-c-preserved c =
     let t = turned i.0 got c.in-Some.ensures in
     (all (omega arith) t c.onward-c.ensures, c.depth_behind.auto.stack ∙ i.1)
 
-pub shape_of-stack-then-depth-eq0 : goal.shape_of-stack-then-depth-eq0
-shape_of-stack-then-depth-eq0 c = c.loop-c.invariant.1
-
 pub returns-then-depth-eq0 : goal.returns-then-depth-eq0
 returns-then-depth-eq0 c = sym (ap check_of (ended_good c.loop-c.invariant.0 c.loop-c-test.false c.if-depth-eq0.true))
-
-pub shape_of-stack-else-depth-eq0 : goal.shape_of-stack-else-depth-eq0
-shape_of-stack-else-depth-eq0 c = c.loop-c.invariant.1
 
 pub returns-else-depth-eq0 : goal.returns-else-depth-eq0
 returns-else-depth-eq0 c = sym (ap check_of (ended_early c.loop-c.invariant.0 c.loop-c-test.false c.if-depth-eq0.false))

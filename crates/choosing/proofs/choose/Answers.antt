@@ -4,10 +4,6 @@ use native.Mathlib.Omega.{arith}
 use Rattle.choosing.proofs.Sentences.{place_in, has_equals, equals_at, has_end, sentence_at, left_side, choose_none, choose_next, choose_this}
 use Rattle.choosing.proofs.choose.Goals as goal
 
-pub loop-c-init : goal.loop-c-init
-loop-c-init c =
-    record { upto = c.requires.at_in_bounds; whole = c.requires.whole; body = c.requires.body; so = refl }
-
 pub kind_at-requires : goal.kind_at-requires
 kind_at-requires c = place_in c.loop-c.invariant
 
@@ -39,16 +35,6 @@ pub read_as-next-requires : goal.read_as-next-requires
 read_as-next-requires c =
     (sentence_at c.loop-c.invariant c.kind_at.ensures c.if-kind_at-eq-FUNCTION_END.false c.seek_kind-equals.ensures c.read_as-right.ensures.next_is
     c.seek_kind-end.ensures refl).right_side.fits
-
-pub slice_bounds-match_left-count : goal.slice_bounds-match_left-count
-slice_bounds-match_left-count c =
-    let l = equals_at c.loop-c.invariant c.kind_at.ensures c.if-kind_at-eq-FUNCTION_END.false c.seek_kind-equals.ensures refl in
-    omega (arith, l.up, l.on, l.fits)
-
-pub slice_bounds-match_left-start : goal.slice_bounds-match_left-start
-slice_bounds-match_left-start c =
-    let l = equals_at c.loop-c.invariant c.kind_at.ensures c.if-kind_at-eq-FUNCTION_END.false c.seek_kind-equals.ensures refl in
-    omega (arith, l.up, l.on, l.fits)
 
 pub slice_bounds-match_left-end : goal.slice_bounds-match_left-end
 slice_bounds-match_left-end c =

@@ -1,14 +1,7 @@
 use mathlib.Core.Path.{refl}
-use native.Mathlib.Omega.{arith}
 use Rattle.meaning.specs.Elements.{body}
-use Rattle.choosing.proofs.Rest.{header_fits, finding_start, named_here, named-not, found_other, found_end}
+use Rattle.choosing.proofs.Rest.{header_fits, named_here, named-not, found_other, found_end}
 use Rattle.choosing.proofs.find.Goals as goal
-
-pub loop-c-init : goal.loop-c-init
-loop-c-init c = finding_start _ _ c.requires.program
-
-pub pass-passed-requires : goal.pass-passed-requires
-pass-passed-requires c = c.loop-c-test.true
 
 pub read_as-header-requires : goal.read_as-header-requires
 read_as-header-requires c =
@@ -23,16 +16,10 @@ returns-then-is_name c =
     named_here c.loop-c.invariant c.loop-c-test.true c.pass-passed.ensures c.if-passed-eq-HEADER.true c.read_as-header.ensures
     c.is_name.ensures c.if-is_name.true _ refl
 
-pub loop-c-smaller-else-is_name : goal.loop-c-smaller-else-is_name
-loop-c-smaller-else-is_name c = let n = c.pass-passed.ensures.next_is in let t = c.loop-c-test.true in omega arith
-
 pub loop-c-preserved-else-is_name : goal.loop-c-preserved-else-is_name
 loop-c-preserved-else-is_name c =
     named-not c.loop-c.invariant c.loop-c-test.true c.pass-passed.ensures c.if-passed-eq-HEADER.true c.read_as-header.ensures
     c.is_name.ensures c.if-is_name.false
-
-pub loop-c-smaller : goal.loop-c-smaller
-loop-c-smaller c = let n = c.pass-passed.ensures.next_is in let t = c.loop-c-test.true in omega arith
 
 pub loop-c-preserved : goal.loop-c-preserved
 loop-c-preserved c = found_other c.loop-c.invariant c.loop-c-test.true c.pass-passed.ensures c.if-passed-eq-HEADER.false

@@ -1,10 +1,7 @@
-use mathlib.Core.Path.{refl, sym, ◌∙◌}
+use mathlib.Core.Path.{sym, ◌∙◌}
 use native.Mathlib.Omega.{arith}
 use Rattle.choosing.proofs.Rest.{seek_in, seek_here, seek_next}
 use Rattle.choosing.proofs.seek_kind.Goals as goal
-
-pub loop-passed-init : goal.loop-passed-init
-loop-passed-init c = record { whole = c.requires.whole; some = c.requires.at_value; so = refl }
 
 pub kind_at-requires : goal.kind_at-requires
 kind_at-requires c = seek_in c.loop-passed.invariant

@@ -1,20 +1,12 @@
 use mathlib.Core.Path.{◌≡◌}
 use native.Mathlib.Omega.{arith}
-use Rattle.elements.proofs.Levels.{seek_start, seek_on, seek_over, seek_shut, seek_done}
+use Rattle.elements.proofs.Levels.{seek_on, seek_over, seek_shut, seek_done}
 use Rattle.elements.proofs.shut_end.Goals as goal
-
-pub loop-depth-init : goal.loop-depth-init
-loop-depth-init c = seek_start _ _ c.requires
 
 pub bounds-s-i : goal.bounds-s-i
 bounds-s-i c =
     let o = seek_over c.loop-depth.invariant c.loop-depth-test.true c.past_characters-c.ensures in
     o.inside
-
-pub overflow_add-c : goal.overflow_add-c
-overflow_add-c c =
-    let o = seek_over c.loop-depth.invariant c.loop-depth-test.true c.past_characters-c.ensures in
-    omega (arith, o.inside)
 
 pub loop-depth-smaller-then-s-i-eq-CLOSE : goal.loop-depth-smaller-then-s-i-eq-CLOSE
 loop-depth-smaller-then-s-i-eq-CLOSE c =
@@ -30,11 +22,6 @@ pub pass-passed-requires : goal.pass-passed-requires
 pass-passed-requires c =
     let o = seek_over c.loop-depth.invariant c.loop-depth-test.true c.past_characters-c.ensures in
     o.inside
-
-pub depth_after-depth-requires : goal.depth_after-depth-requires
-depth_after-depth-requires c =
-    let o = seek_over c.loop-depth.invariant c.loop-depth-test.true c.past_characters-c.ensures in
-    (omega arith, omega (arith, o.inside, o.seeking.few, o.seeking.behind))
 
 pub loop-depth-smaller : goal.loop-depth-smaller
 loop-depth-smaller c =

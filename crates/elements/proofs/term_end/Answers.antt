@@ -25,13 +25,6 @@ returns-in-4 c =
     let (h, d) = c.in_ok-k.ensures.lookup.3 in
     bracketed c.args.s.now c.args.at _ h c.requires (sym (d 0) ∙ c.in-4.is) c.shut_end.ensures
 
-pub overflow_add-result : goal.overflow_add-result
-overflow_add-result c =
-    let (h, d) = c.in_ok-k.ensures.lookup.3 in
-    let e = d 0 in
-    let (t, p) = symbol_here c.args.s.now c.args.at h c.requires.balanced (λ q. omega arith) (λ q. omega arith) in
-    omega (arith, p.fits, rw e at c.length_of.ensures.0)
-
 pub returns-in_default : goal.returns-in_default
 returns-in_default c =
     let (h, d) = c.in_ok-k.ensures.lookup.3 in

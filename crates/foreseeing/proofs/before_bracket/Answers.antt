@@ -1,10 +1,6 @@
-use Rattle.settling.proofs.Next.{item_placed}
 use Rattle.foreseeing.proofs.Foreseen.{sound_more, bracket_begins, meant_behind}
 use mathlib.Core.Path.{refl}
 use Rattle.foreseeing.proofs.before_bracket.Goals as goal
-
-pub meant-requires : goal.meant-requires
-meant-requires c = (item_placed c.requires.0 c.item_at.ensures, c.requires.1)
 
 pub returns : goal.returns
 returns c =

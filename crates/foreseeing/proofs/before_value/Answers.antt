@@ -1,10 +1,6 @@
-use Rattle.foreseeing.proofs.Foreseen.{value_last, value_begins, character_known}
-use native.Mathlib.Omega.{arith}
+use Rattle.foreseeing.proofs.Foreseen.{value_begins, character_known}
 use mathlib.Core.Path.{refl, sym, ◌∙◌}
 use Rattle.foreseeing.proofs.before_value.Goals as goal
-
-pub returns-then-last : goal.returns-then-last
-returns-then-last c = value_last c.args.value.now c.args.arg.now _ (omega arith) c.if-last.true c.between.ensures
 
 pub returns : goal.returns
 returns c =

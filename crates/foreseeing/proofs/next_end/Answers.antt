@@ -15,12 +15,6 @@ returns-in_err-next c =
     rw c.from_residual.ensures
     (never_ends c.loop-w.invariant (barred_there (rw c.loop-w-test.true at c.can_end.ensures)) (rw c.in_err-next.was at c.term_end.ensures))
 
-pub run_end-requires : goal.run_end-requires
-run_end-requires c = (c.requires.1.fits, (term_less (rw c.in_ok-next.was at c.term_end.ensures)).1)
-
-pub past_characters-i-requires : goal.past_characters-i-requires
-past_characters-i-requires c = c.run_end.ensures.fits
-
 pub loop-w-smaller : goal.loop-w-smaller
 loop-w-smaller c =
     omega (arith, term_less (rw c.in_ok-next.was at c.term_end.ensures), characters_on c.past_characters-i.ensures)

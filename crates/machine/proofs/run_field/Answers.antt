@@ -14,33 +14,15 @@ run_checked-requires c =
     checked _ _ _ _ c.requires _ c.check_field.auto.scratch
     (field_good (bad_field _) (c.in-Ok.ensures.0 ∙ field_check_lem _ _ _ _ c.requires))
 
-pub shape_of-field-in-Ok : goal.shape_of-field-in-Ok
-shape_of-field-in-Ok c = c.run_checked.auto.field
-
-pub shape_of-scratch-in-Ok : goal.shape_of-scratch-in-Ok
-shape_of-scratch-in-Ok c = c.run_checked.auto.scratch ∙ c.check_field.auto.scratch
-
 pub returns-in-Ok : goal.returns-in-Ok
 returns-in-Ok c =
     let good = field_good (bad_field _) (c.in-Ok.ensures.0 ∙ field_check_lem _ _ _ _ c.requires) in
     same-run _ _ _ _ c.requires _ c.check_field.auto.scratch good _ c.run_checked.ensures
 
-pub shape_of-field-in-Err-Bad : goal.shape_of-field-in-Err-Bad
-shape_of-field-in-Err-Bad c = refl
-
-pub shape_of-scratch-in-Err-Bad : goal.shape_of-scratch-in-Err-Bad
-shape_of-scratch-in-Err-Bad c = c.check_field.auto.scratch
-
 pub returns-in-Err-Bad : goal.returns-in-Err-Bad
 returns-in-Err-Bad c =
     let bad = field_bad (bad_field _) ((rw c.in-Err-Bad.field-0-is at c.in-Err-Bad.ensures.0) ∙ field_check_lem _ _ _ _ c.requires) in
     bad_field_lem _ _ _ _ c.requires _ bad _ (c.check_field.ensures.1 ∙ scratch_zero _ _ _ _ c.requires) c.refusal.ensures
-
-pub shape_of-field-in-Err-Short : goal.shape_of-field-in-Err-Short
-shape_of-field-in-Err-Short c = refl
-
-pub shape_of-scratch-in-Err-Short : goal.shape_of-scratch-in-Err-Short
-shape_of-scratch-in-Err-Short c = c.check_field.auto.scratch
 
 pub returns-in-Err-Short : goal.returns-in-Err-Short
 returns-in-Err-Short c =

@@ -1,42 +1,19 @@
-use Rattle.matching.proofs.Lengths.{trying_start, takes_all, trying_long, trying_level, trying_ready, trying_found, trying_on, trying_over, trying_next, trying_barred, skipped_on}
+use Rattle.matching.proofs.Lengths.{trying_start, takes_all, trying_level, trying_ready, trying_found, trying_on, trying_over, trying_next, trying_barred, skipped_on}
 use Rattle.foreseeing.proofs.Foreseen.{term_less}
-use Rattle.matching.proofs.Going.{going_start, going_lost, going_ends, going_over, going_left, single_here, fresh_ready, fresh-seek, going_stuck, going_on}
+use Rattle.matching.proofs.Going.{going_lost, going_ends, going_over, fresh-seek, going_stuck, going_on}
 use Rattle.settling.proofs.Slots.{kept_self}
 use Rattle.settling.proofs.Ends.{slotted_small}
 use native.Mathlib.Omega.{arith}
 use Rattle.matching.proofs.+match_rest_try_lengths.Goals as goal
-
-pub match_rest-loop-here-init : goal.match_rest-loop-here-init
-match_rest-loop-here-init t c = going_start c.requires
-
-pub match_rest-item_at-item-requires : goal.match_rest-item_at-item-requires
-match_rest-item_at-item-requires t c = going_left c.loop-here.invariant c.loop-here-test.true
-
-pub match_rest-fresh_e-requires : goal.match_rest-fresh_e-requires
-match_rest-fresh_e-requires t c = slotted_small c.item_at-item.ensures.slotted
-
-pub match_rest-try_lengths-requires : goal.match_rest-try_lengths-requires
-match_rest-try_lengths-requires t c =
-    let f = rw c.in-Some.is at c.fresh_e.ensures in (
-      omega (arith, c.item_at-item.ensures.on, c.loop-here.invariant.on, c.loop-here-test.true),
-      (fresh_ready c.loop-here.invariant c.item_at-item.ensures f.0 f.1, f.1),
-    )
 
 pub match_rest-returns-in-Some : goal.match_rest-returns-in-Some
 match_rest-returns-in-Some t c =
     let f = rw c.in-Some.is at c.fresh_e.ensures in
     going_ends c.loop-here.invariant (rw (fresh-seek c.loop-here.invariant c.item_at-item.ensures f.0 f.1) c.try_lengths.ensures)
 
-pub match_rest-only_end-requires : goal.match_rest-only_end-requires
-match_rest-only_end-requires t c =
-    single_here c.loop-here.invariant c.item_at-item.ensures (rw c.in_default.is at c.fresh_e.ensures)
-
 pub match_rest-settle-settled-requires : goal.match_rest-settle-settled-requires
 match_rest-settle-settled-requires t c =
     record { long = c.loop-here.invariant.ready.table.long; high = slotted_small c.item_at-item.ensures.slotted }
-
-pub match_rest-loop-here-smaller : goal.match_rest-loop-here-smaller
-match_rest-loop-here-smaller t c = omega (arith, c.item_at-item.ensures.on, c.loop-here-test.true)
 
 pub match_rest-loop-here-preserved : goal.match_rest-loop-here-preserved
 match_rest-loop-here-preserved t c =
@@ -51,37 +28,15 @@ match_rest-returns-in_default-only_end t c =
 pub match_rest-returns : goal.match_rest-returns
 match_rest-returns t c = going_over c.loop-here.invariant (omega arith)
 
-pub try_lengths-settle-requires : goal.try_lengths-settle-requires
-try_lengths-settle-requires t c =
-    record { long = c.requires.0.table.long; high = omega (arith, c.requires.1.high) }
-
 pub try_lengths-returns-then-j-left : goal.try_lengths-returns-then-j-left
 try_lengths-returns-then-j-left t c = takes_all c.requires.0 c.requires.1 c.if-j-left.true c.settle.ensures
-
-pub try_lengths-foresee-w-requires : goal.try_lengths-foresee-w-requires
-try_lengths-foresee-w-requires t c = (
-  record {
-    depth = c.requires.0.depth;
-    inside = omega (arith, c.requires.0.left_fits, c.if-j-left.false);
-    left_side = c.requires.0.left_side;
-  },
-  c.requires.0,
-  c.requires.1,
-)
 
 pub try_lengths-loop-end-init : goal.try_lengths-loop-end-init
 try_lengths-loop-end-init t c = trying_start c.requires.0 c.requires.1
 
-pub try_lengths-next_end-requires : goal.try_lengths-next_end-requires
-try_lengths-next_end-requires t c = (trying_level c.loop-end.invariant, c.foresee-w.ensures.usable)
-
 pub try_lengths-returns : goal.try_lengths-returns
 try_lengths-returns t c =
     trying_barred c.loop-end.invariant c.foresee-w.ensures (rw c.in_default.is at c.next_end.ensures)
-
-pub try_lengths-settle-known-requires : goal.try_lengths-settle-known-requires
-try_lengths-settle-known-requires t c =
-    record { long = trying_long c.loop-end.invariant; high = omega (arith, c.requires.1.high) }
 
 pub try_lengths-match_rest-requires : goal.try_lengths-match_rest-requires
 try_lengths-match_rest-requires t c =

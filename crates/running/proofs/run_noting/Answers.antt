@@ -11,11 +11,6 @@ steps_from-halt-requires g c =
     let ok = ready _ _ _ _ c.requires.checked in
     record { ready = ok; field_len_bound = omega (arith, length-replicate {A = ℕ} g.row.N 0, c.requires.notes.0); cache = empty_cache _ ok.program }
 
-pub close-length-requires : goal.close-length-requires
-close-length-requires g c =
-    let e = c.steps_from-halt.ensures in
-    record { lo_le_hi = e.gap; hi_in_bounds = e.fits }
-
 pub returns : goal.returns
 returns g c =
     let shut = c.close-length.ensures in

@@ -3,9 +3,6 @@ use native.Mathlib.Omega.{arith}
 use Rattle.running.proofs.Loop.{same-run, between_start, end_done, end_paused, stuck_from, next_from, halted_as, led_under}
 use Rattle.running.proofs.steps_from.Goals as goal
 
-pub begin-s-requires : goal.begin-s-requires
-begin-s-requires c = c.requires.ready.fits
-
 pub loop-at-init : goal.loop-at-init
 loop-at-init c = record {
   same = refl;
@@ -14,16 +11,6 @@ loop-at-init c = record {
   cache = c.requires.cache;
   between = between_start _ _ _ _ _ _ _ _ _ c.requires.ready refl c.begin-s.ensures refl;
 }
-
-pub advance-mark-requires : goal.advance-mark-requires
-advance-mark-requires c =
-    let inv = c.loop-at.invariant in
-    let l0 = inv.same in
-    let lc = inv.notes in
-    let l1 = c.begin-s.auto.field in
-    let s = c.requires.ready.field_short in
-    let n = c.requires.field_len_bound in
-    record { good = inv.between.good; roomy = (omega arith, omega arith); standing = inv.between.standing }
 
 pub returns-in_default : goal.returns-in_default
 returns-in_default c =
@@ -34,35 +21,6 @@ pub returns-then-steps-budget : goal.returns-then-steps-budget
 returns-then-steps-budget c =
     halted_as (same-run _ _ _ _ _ c.requires.ready.fits c.begin-s.ensures)
     (rw c.halted-then-steps-budget.ensures (end_paused _ _ _ _ _ _ _ _ _ _ _ _ c.loop-at.invariant.between _ _ _ _ _ _ _ _ c.advance-mark.ensures c.in-Some.is c.if-steps-budget.true))
-
-pub gather-lead-requires : goal.gather-lead-requires
-gather-lead-requires c =
-    let v = c.advance-mark.ensures in
-    let z = c.in-Some.is in
-    record { good = v.good; reached = (v.next.yes _ z, v.shuts _ z) }
-
-pub step_at-requires : goal.step_at-requires
-step_at-requires c =
-    let inv = c.loop-at.invariant in
-    let g = c.gather-lead.ensures in
-    let k = c.requires.ready in
-    let l0 = inv.same in
-    let l1 = c.begin-s.auto.field in
-    let la = c.advance-mark.auto.field in
-    let lg = c.gather-lead.auto.field in
-    let lc = inv.notes in
-    let lca = c.advance-mark.auto.calls in
-    let ls = inv.room in
-    let s = k.field_short in
-    let t = k.scratch_long in
-    let n = c.requires.field_len_bound in
-    record {
-      program_len_bound = (k.program_short, k.functions, k.program);
-      cache = inv.cache;
-      good = g.same.0;
-      led = record { read = _; depth = _; under = led_under g.led.0 g.led.1 g.same.2 };
-      roomy = ((omega arith, omega arith), omega arith);
-    }
 
 pub returns-in-Err : goal.returns-in-Err
 returns-in-Err c =

@@ -1,11 +1,8 @@
 use Rattle.settling.proofs.Next.{left_proper, named_at, item_fixed, item_named, item_bytes}
-use Rattle.elements.proofs.Places.{proper_inside, proper_splits}
+use Rattle.elements.proofs.Places.{proper_splits}
 use native.Mathlib.Omega.{arith}
 use Rattle.settling.proofs.item_at.Goals.{then-passed-lt-S_VARIABLE, else-passed-lt-S_VARIABLE}
 use Rattle.settling.proofs.item_at.Goals as goal
-
-pub pass-passed-requires : goal.pass-passed-requires
-pass-passed-requires c = proper_inside (left_proper c.requires)
 
 pub bounds-left-at : goal.bounds-left-at
 bounds-left-at c = (named_at c.requires (omega (arith, c.pass-passed.ensures.kind_is))).long

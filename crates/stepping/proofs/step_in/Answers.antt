@@ -4,9 +4,6 @@ use Rattle.stepping.proofs.Term.{places, arg_balanced}
 use Rattle.stepping.proofs.Step.{place, sd, refused, stays_2, stays_4, in_given, start_in, in_count, in_done}
 use Rattle.stepping.proofs.step_in.Goals as goal
 
-pub slice_bounds-choose-count : goal.slice_bounds-choose-count
-slice_bounds-choose-count c = (places c.requires.good c.requires.led.under.term).1
-
 pub slice_bounds-choose-end : goal.slice_bounds-choose-end
 slice_bounds-choose-end c = omega (arith, (places c.requires.good c.requires.led.under.term).2)
 

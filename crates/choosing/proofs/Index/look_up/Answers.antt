@@ -1,5 +1,4 @@
 use mathlib.Core.Path.{refl}
-use native.Mathlib.Omega.{arith}
 use Rattle.meaning.specs.Elements.{body}
 use Rattle.choosing.proofs.Table.{table_none, table_in, table_some}
 use Rattle.choosing.proofs.Index.look_up.Goals as goal
@@ -9,11 +8,6 @@ returns-then-place-eq0 c =
     let e = c.read_to.ensures in
     record
     { looked = table_none e.0 c.args.lo c.args.hi (rw (← c.slot_of-slot.ensures.0) c.if-place-eq0.true) (e.1 c.if-place-eq0.true); cache = e.0 }
-
-pub overflow_sub-c : goal.overflow_sub-c
-overflow_sub-c c =
-    let (a, b) = table_in c.read_to.ensures.0 c.args.lo c.args.hi _ (rw (← c.slot_of-slot.ensures.0) refl) c.if-place-eq0.false in
-    omega arith
 
 pub read_as-first-requires : goal.read_as-first-requires
 read_as-first-requires c =

@@ -15,6 +15,3 @@ slice_bounds-result-end c = (held_in c.requires.0 c.args.slot c.requires.1 (sym 
 pub returns-then-has : goal.returns-then-has
 unfolding value_of
 returns-then-has c = (sym c.has.ensures ∙ c.if-has.true, refl)
-
-pub returns-else-has : goal.returns-else-has
-returns-else-has c = sym c.has.ensures ∙ c.if-has.false
