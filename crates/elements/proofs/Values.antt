@@ -5,8 +5,8 @@ use mathlib.Core.List.{List, [], ◌∷◌, ◌++◌, append-nil}
 use Prim.Native.Nat.{ℕ, suc, ◌+◌, ◌-◌, ◌^◌, ◌≤◌, ◌<◌}
 use native.Mathlib.Omega.{arith}
 use lib.ListN.{length, get_or, take, drop, length-take, length-drop, take-append-drop}
-use lib.Seq.{take_all, take_at, take-add, drop-drop}
-use Rattle.std.specs.List.{starts_with}
+use lib.Seq.{take_at, take-add, drop-drop}
+use Rattle.std.specs.Cmp.Lexicographic.{pointwise}
 use Rattle.std.specs.Prelude.{nat_eq, Result, Ok, Err, Some, None}
 use Rattle.std.specs.Result.{result_ok}
 use Rattle.std.proofs.lemmas.Slice.Eq.{bytes_eq-Decides}
@@ -54,18 +54,15 @@ same_element x y bx by q =
     sym (element_back x) ∙ rw (k, n) (element_back y)
 
 -- bytes that are cut into the same elements are the same
-bytes_same : (a b : List ℕ) → elements a ≡ elements b → a ≡ b
+pub bytes_same : (a b : List ℕ) → elements a ≡ elements b → a ≡ b
 bytes_same a b q = sym (join-cut a) ∙ ap join q ∙ join-cut b
 
--- whether a list begins with some bytes at a place
-pub begins_told : (p s : List ℕ) (at : ℕ) {r : Bool} → r ≡ starts_with nat_eq (take (length s - at) (drop at s)) p → Told r (p ≡ take (length p) (drop at s))
-begins_told p s at {r} e =
-    let z : take (length s - at) (drop at s) ≡ drop at s = take_all (length s - at) (drop at s) (rw length-drop (omega arith)) in
-    go r (rw z at e)
+pub bytes_told : (a b : List ℕ) {r : Bool} → r ≡ pointwise nat_eq a b → Told r (a ≡ b)
+bytes_told a b {r} e = go r e
   where
-    go : (r : Bool) → r ≡ starts_with nat_eq (drop at s) p → Told r (p ≡ take (length p) (drop at s))
-    go true e = (bytes_eq-Decides p (take (length p) (drop at s))).0 (sym e)
-    go false e = λ q. let w = (bytes_eq-Decides p (take (length p) (drop at s))).1 q in never (cc (e, w))
+    go : (r : Bool) → r ≡ pointwise nat_eq a b → Told r (a ≡ b)
+    go true e = (bytes_eq-Decides a b).0 (sym e)
+    go false e = λ q. let w = (bytes_eq-Decides a b).1 q in never (cc (e, w))
 
 -- WHAT IS SHARED AT A PLACE
 
@@ -102,12 +99,6 @@ module _ (a b : List ℕ) (at t : ℕ) (p : ProperAt a at) (is : t ≡ at + 1 + 
   whole_one [] h = never (omega arith)
   whole_one (k ∷ bs) h = w_more {k = k} {b = bs} (omega arith) w_none
 
-  part_long : length (take (t - at) (drop at a)) ≡ t - at
-  part_long = let l = split_a.on in let f = split_a.fits in simp (length-take, length-drop) (omega arith)
-
-  pub bytes_told : {r : Bool} → r ≡ starts_with nat_eq (take (length b - at) (drop at b)) (take (t - at) (drop at a)) → Told r (take (t - at) (drop at a) ≡ take (t - at) (drop at b))
-  bytes_told q = rw part_long at (begins_told (take (t - at) (drop at a)) b at q)
-
   pub bytes_shared : take (t - at) (drop at a) ≡ take (t - at) (drop at b) → Shared a b at (Some t)
   bytes_shared q =
       let n = split_size split_a in
@@ -119,6 +110,12 @@ module _ (a b : List ℕ) (at t : ℕ) (p : ProperAt a at) (is : t ≡ at + 1 + 
 
   pub bytes_apart : (take (t - at) (drop at a) ≡ take (t - at) (drop at b) → ⊥) → Shared a b at None
   bytes_apart f = differ (λ q. f (ap (λ (l : List ℕ). take (t - at) l) (bytes_same (drop at a) (drop at b) q)))
+
+  pub bytes_short : length b < t → Shared a b at None
+  bytes_short h =
+      let f = split_a.fits in
+      let g = split_a.on in
+      bytes_apart (λ q. never (let e = simp (length-take, length-drop) at (ap length q) in omega arith))
 
 -- THE LOOP
 

@@ -261,7 +261,7 @@ fn shared_bytes(a: &[u8], b: &[u8], at: usize, end: usize) -> Option<usize>
     requires { ProperAt a.now at × (end ≡ at + 1 + body (get_or a.now at 0)) × (at ≤ length b.now) }
     ensures { Shared a.now b.now at result }
 {
-    if b[at..].starts_with(&a[at..end]) {
+    if end <= b.len() && a[at..end] == b[at..end] {
         Some(end)
     } else {
         None

@@ -5,7 +5,7 @@ use mathlib.Core.Option.{none}
 use mathlib.Core.List.{List, [], ◌∷◌, ◌++◌}
 use Prim.Native.Nat.{ℕ, ◌+◌, ◌-◌, ◌/◌, ◌%◌, ◌≤◌, ◌<◌}
 use native.Mathlib.Omega.{arith}
-use lib.ListN.{length, get_or, take, drop, length-append, length-take, length-drop, take-append-drop}
+use lib.ListN.{length, get_or, take, drop, length-append, length-drop, take-append-drop}
 use lib.Seq.{take_at, drop-drop}
 use lib.Dec.{eqb}
 use borrow.Author.Tests.{le-leb, eqb-true, eqb-false, ne_eqb}
@@ -51,18 +51,6 @@ module _ (value arg : List ℕ) (at : ℕ) (proper : Proper (elements value)) (f
   pub value_long : length arg - at < length value → ValueEnd (elements value) arg at None
   value_long l =
       differs (λ r q. never (let e = simp (length-append, length-drop) at (ap length (begins r q)) in omega arith))
-
-  -- the same of bytes with which the argument begins there
-  pub bytes_there : value ≡ take (length value) (drop at arg) → ValueEnd (elements value) arg at (Some (at + length value))
-  bytes_there e =
-      let z : at + length value - at ≡ length value = omega arith in
-      let l = simp (length-take, length-drop) at (ap length e) in
-      value_there (length value) refl (omega arith) (rw z (ap elements e))
-
-  pub bytes_elsewhere : (value ≡ take (length value) (drop at arg) → ⊥) → ValueEnd (elements value) arg at None
-  bytes_elsewhere f =
-      let z : at + length value - at ≡ length value = omega arith in
-      value_elsewhere (length value) refl (λ q. f (sym (join-cut _) ∙ ap join q ∙ join-cut _ ∙ rw z))
 
 -- ROLES BY KINDS
 

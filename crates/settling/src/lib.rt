@@ -51,8 +51,9 @@ fn element_end(bytes: &[u8], arg: &[u8], at: usize) -> Option<usize>
     requires { Proper (elements bytes.now) × (at ≤ length arg.now) }
     ensures { ValueEnd (elements bytes.now) arg.now at result }
 {
-    if arg[at..].starts_with(bytes) {
-        Some(at + bytes.len())
+    let end = at + bytes.len();
+    if end <= arg.len() && bytes == &arg[at..end] {
+        Some(end)
     } else {
         None
     }
