@@ -1,6 +1,6 @@
-use Rattle.machine.proofs.Answering.{check_good, check_bad, bad_program_lem, bad_sizes}
+use Rattle.machine.proofs.Answering.{check_bad, bad_program_lem, bad_sizes}
 use Rattle.meaning.specs.Goodness.{bad_program}
-use mathlib.Core.Path.{refl, sym, ◌∙◌}
+use mathlib.Core.Path.{sym, ◌∙◌}
 use Rattle.machine.proofs.run.Goals as goal
 
 pub returns-then-not-sizes_fit : goal.returns-then-not-sizes_fit

@@ -1,6 +1,6 @@
 use Rattle.machine.proofs.Answering.{field_good, field_bad, never_short, used_fits, field_check_lem, scratch_zero, checked, same-run, bad_field_lem}
 use Rattle.meaning.specs.Goodness.{bad_field}
-use mathlib.Core.Path.{refl, ◌∙◌}
+use mathlib.Core.Path.{◌∙◌}
 use native.Mathlib.Omega.{arith}
 use Rattle.machine.proofs.run_field.Goals as goal
 
