@@ -156,6 +156,7 @@ fn noted<W: Write>(
     scratch: &[u8],
 ) -> io::Result<()> {
     let Record { used, code, place } = now;
+    // A record has no steps, and a part depends on none: no conversion, and the one place of a record (embed has plain numbers).
     let answer = Answer {
         code,
         steps: 0,
@@ -203,6 +204,7 @@ fn start<R: Read, F: FnOnce(&mut Case<'_>) -> io::Result<()>>(
 
 fn main(rt: HostRuntime) -> io::Result<()> {
     let mut out = BufWriter::new(rt.alloc(), io::writer(&rt))?;
+    // Buffers of a fixed length: what machine and desk take is a buffer, of which a case has a part, and a used length.
     let mut program = [0u8; 65600];
     let mut field = [0u8; 65600];
     let mut scratch = [0u8; 65600];

@@ -5,6 +5,7 @@ ghost use Rattle.std.specs.Prelude.{◌≡◌, ◌⊎◌, [], ◌≤◌, length,
 ghost use Rattle.casework.specs.Hash.{hash_of};
 ghost use Rattle.casework.specs.Printed.{word_of};
 ghost use Rattle.casework.specs.Words.{IsNext, IsByte, IsPart};
+ghost use Rattle.std.specs.Io.KnownBytes.{Consumes};
 
 use hexing::Hex;
 use std::fs::File;
@@ -34,12 +35,20 @@ pub fn each_case<
     Ok(())
 }
 
+// The next N bytes; none where the file ends.
+fn next<const N: usize, R: Read>(file: &mut R) -> Option<[u8; N]>
+    ensures { IfSome result (λ b. Consumes (R.remaining file.old) (R.remaining file.new) b) }
+{
+    let mut b = [0u8; N];
+    file.read_exact(&mut b).ok()?;
+    Some(b)
+}
+
 // A number of four bytes, the low byte first; none where the file ends.
 pub fn number<R: Read>(file: &mut R) -> Option<u32>
     ensures { IsNext (R.remaining file.old) (R.remaining file.new) result }
 {
-    let mut b = [0u8; 4];
-    file.read_exact(&mut b).ok()?;
+    let b = next::<4, R>(file)?;
     Some(u32::from_le_bytes(b))
 }
 
@@ -47,8 +56,7 @@ pub fn number<R: Read>(file: &mut R) -> Option<u32>
 pub fn byte<R: Read>(file: &mut R) -> Option<u8>
     ensures { IsByte (R.remaining file.old) (R.remaining file.new) result }
 {
-    let mut b = [0u8; 1];
-    file.read_exact(&mut b).ok()?;
+    let b = next::<1, R>(file)?;
     Some(b[0])
 }
 

@@ -91,7 +91,7 @@ fn coded(number: u64) -> Code
     }
 }
 
-// How long the pointer's part is.
+// How long the pointer's part is. The answer is built from plain numbers, so no From would be plainer; its steps, which no part depends on, are 0.
 fn part_length<'a>(
     code: u64,
     used: usize,

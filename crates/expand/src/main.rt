@@ -10,6 +10,7 @@ use std::{fs, io};
 const MOST: usize = 65536;
 
 // What a file holds, as far as it can be opened and read; of a longer one, a byte more than there may be.
+// Not one with read_rules' load, which hands each error on: here a read that fails ends the file, and only want of memory is handed on.
 fn load<R: Files + AllocGlobal>(rt: &R, path: &str) -> io::Result<Vec<u8>> {
     let mut bytes = Vec::new(rt.alloc());
     let Ok(file) = fs::open(rt, path) else {

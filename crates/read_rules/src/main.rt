@@ -16,6 +16,7 @@ use std::rt::Files;
 use std::{fs, io};
 
 // What a file holds; of a longer one, a byte more than a text may have, so that reading itself refuses it.
+// Not one with expand's load, which takes what was read where a read fails: here the error is told.
 fn load<R: Files + AllocGlobal>(rt: &R, path: &str) -> io::Result<Vec<u8>> {
     let mut bytes = Vec::new(rt.alloc());
     fs::open(rt, path)?.take(65537).read_to_end(&mut bytes)?;
@@ -32,6 +33,7 @@ fn read_into(text: &[u8], program: &mut [u8], list: &mut [u8]) -> Answer
 
 // The numbers after files that are there, so that nobody takes old files for new ones.
 fn read<R: Files + AllocGlobal, W: Write>(rt: &R, out: &mut W) -> Result<(), Failure> {
+    // Buffers of a fixed length: what reading takes is a buffer, and it answers the used length.
     let mut program = [0u8; 65536];
     let mut list = [0u8; 65536];
     let text = load(rt, "rules.ref").map_err(|e| failed("rules.ref", e))?;

@@ -58,6 +58,7 @@ fn read<W: Write>(out: &mut W, case: Case<'_>) -> io::Result<()> {
 
 fn main(rt: HostRuntime) -> io::Result<()> {
     let mut out = BufWriter::new(rt.alloc(), io::writer(&rt))?;
+    // Buffers of a fixed length, of which a case has a part: what reading takes is a buffer, and it answers the used length.
     let mut text = [0u8; 65600];
     let mut program = [0u8; 65600];
     let mut list = [0u8; 65600];
