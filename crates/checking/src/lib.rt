@@ -74,9 +74,9 @@ fn pass_element(state: State, e: Element, stack: &mut [u8]) -> Option<State>
     ensures { Tried state (kind_of e) (number_of e) stack.old result stack.new }
 {
     match e {
-        Element::Character(_) => Some(pass_symbol(state)),
-        Element::Name(_) => Some(pass_symbol(state)),
-        Element::Macrodigit(_) => Some(pass_symbol(state)),
+        Element::Character(_) | Element::Name(_) | Element::Macrodigit(_) => {
+            Some(pass_symbol(state))
+        }
         Element::Open => pass_bracket(state, kinds::OPEN, stack),
         Element::Close => pass_bracket(state, kinds::CLOSE, stack),
         Element::Call(_) => pass_bracket(state, kinds::CALL, stack),
