@@ -34,9 +34,7 @@ fn depth_behind(x: Element, stack: &mut [u8], depth: usize) -> Option<usize>
     ensures { Turned x stack.old depth result stack.new }
 {
     match x {
-        Element::Character(_) => Some(depth),
-        Element::Name(_) => Some(depth),
-        Element::Macrodigit(_) => Some(depth),
+        Element::Character(_) | Element::Name(_) | Element::Macrodigit(_) => Some(depth),
         Element::Open => {
             stack[depth] = kinds::OPEN;
             Some(depth + 1)
