@@ -258,8 +258,7 @@ fn put_within(
     ensures { Onward (making_within (token_of text.now at lexeme.token) number) reader stack.old buf.old result stack.new buf.new }
 {
     match lexeme.token {
-        Token::Gap => None,
-        Token::Malformed => None,
+        Token::Gap | Token::Malformed => None,
         Token::Name => put(reader, Element::Name(number), stack, buf),
         Token::Call => put(reader, Element::Call(number), stack, buf),
         Token::Macrodigit(v) => put(reader, macrodigit(v), stack, buf),
