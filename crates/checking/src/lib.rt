@@ -173,13 +173,7 @@ fn pass_program(program: &[u8], stack: &mut [u8]) -> Result<(), usize>
     ensures { result ≡ check_of (bad_program program.now) }
 {
     let mut at = Cursor { at: 0 };
-    let mut state = State {
-        part: taking::OUTSIDE,
-        depth: 0,
-        count: 0,
-        set: kinds::Slots::NONE,
-        number: 0,
-    };
+    let mut state = State::BEGUN;
     while at.at < program.len() {
         let bad = Err(at.at);
         let Ok((e, next)) = at.read(program) else {
