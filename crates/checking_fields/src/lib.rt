@@ -17,6 +17,7 @@ pub enum FieldFault {
 }
 
 // How many brackets are open behind the closing of the latest, which has to be of the kind `opening`.
+// The depth goes by value and the stack is lent, so that the one fits the other is a clause, here and below.
 fn closed(stack: &[u8], depth: usize, opening: u8) -> Option<usize>
     requires { (depth ≤ length stack.now) × (1 ≤ opening) }
     ensures { Closed stack.now depth opening result }
