@@ -74,9 +74,9 @@ fn pass_element(state: State, e: Element, stack: &mut [u8]) -> Option<State>
     ensures { Tried state (kind_of e) (number_of e) stack.old result stack.new }
 {
     match e {
-        Element::Character(_) => Some(pass_symbol(state)),
-        Element::Name(_) => Some(pass_symbol(state)),
-        Element::Macrodigit(_) => Some(pass_symbol(state)),
+        Element::Character(_) | Element::Name(_) | Element::Macrodigit(_) => {
+            Some(pass_symbol(state))
+        }
         Element::Open => pass_bracket(state, kinds::OPEN, stack),
         Element::Close => pass_bracket(state, kinds::CLOSE, stack),
         Element::Call(_) => pass_bracket(state, kinds::CALL, stack),
@@ -173,13 +173,7 @@ fn pass_program(program: &[u8], stack: &mut [u8]) -> Result<(), usize>
     ensures { result ≡ check_of (bad_program program.now) }
 {
     let mut at = Cursor { at: 0 };
-    let mut state = State {
-        part: taking::OUTSIDE,
-        depth: 0,
-        count: 0,
-        set: kinds::Slots::NONE,
-        number: 0,
-    };
+    let mut state = State::BEGUN;
     while at.at < program.len() {
         let bad = Err(at.at);
         let Ok((e, next)) = at.read(program) else {

@@ -17,6 +17,7 @@ pub enum FieldFault {
 }
 
 // How many brackets are open behind the closing of the latest, which has to be of the kind `opening`.
+// The depth goes by value and the stack is lent, so that the one fits the other is a clause, here and below.
 fn closed(stack: &[u8], depth: usize, opening: u8) -> Option<usize>
     requires { (depth ≤ length stack.now) × (1 ≤ opening) }
     ensures { Closed stack.now depth opening result }
@@ -34,9 +35,7 @@ fn depth_behind(x: Element, stack: &mut [u8], depth: usize) -> Option<usize>
     ensures { Turned x stack.old depth result stack.new }
 {
     match x {
-        Element::Character(_) => Some(depth),
-        Element::Name(_) => Some(depth),
-        Element::Macrodigit(_) => Some(depth),
+        Element::Character(_) | Element::Name(_) | Element::Macrodigit(_) => Some(depth),
         Element::Open => {
             stack[depth] = kinds::OPEN;
             Some(depth + 1)

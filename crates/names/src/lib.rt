@@ -17,6 +17,7 @@ const NAME: u8 = 20;
 
 // A name: where it first begins, and one more than the number of the name before it in its bucket, or 0 if there is none. There is no
 // heap, so a bucket is such a chain.
+// 0 and no Option, here and in `heads`: an Option<u16> has four bytes, and the tables would not fit the stack.
 #[derive(Clone, Copy)]
 pub struct Entry {
     pub first: u16,

@@ -35,7 +35,7 @@ pub struct Reader {
     pub len: usize,
 }
 
-// A number's n bytes, the low byte first.
+// A number's n bytes, the low byte first. By hand: n is 0 to 4, and copy_from_slice would be a call of memcpy each time.
 fn write_number(buf: &mut [u8], at: usize, n: usize, number: u32)
     requires { at + n ≤ length buf.old }
     ensures { buf.new ≡ sets buf.old at (digits n number) }
@@ -48,6 +48,7 @@ fn write_number(buf: &mut [u8], at: usize, n: usize, number: u32)
 }
 
 // One element behind the first len bytes; the length then, or one more than the buffer has where it does not fit.
+// A length and no refusal: reading goes on, and one test at its end says whether the program fits.
 fn write(buf: &mut [u8], len: usize, kind: u8, number: u32) -> usize
     requires { len ≤ length buf.old + 1 }
     ensures { Written buf.old len (kind ∷ digits (body kind) number) result buf.new }
@@ -258,8 +259,7 @@ fn put_within(
     ensures { Onward (making_within (token_of text.now at lexeme.token) number) reader stack.old buf.old result stack.new buf.new }
 {
     match lexeme.token {
-        Token::Gap => None,
-        Token::Malformed => None,
+        Token::Gap | Token::Malformed => None,
         Token::Name => put(reader, Element::Name(number), stack, buf),
         Token::Call => put(reader, Element::Call(number), stack, buf),
         Token::Macrodigit(v) => put(reader, macrodigit(v), stack, buf),

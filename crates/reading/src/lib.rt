@@ -16,7 +16,7 @@ use elements::Element;
 use names::Names;
 use putting::{Phase, Reader};
 use taking::State;
-use tokens::Token;
+use tokens::{Lexeme, Token};
 use variables::Variables;
 
 // The longest text, program and list.
@@ -59,13 +59,14 @@ fn type_of(letter: u8) -> u8
 }
 
 // The number of a token's name or variable, 0 for another token; a new one is kept in the tables.
-fn meet(at: usize, end: usize, token: Token, names: &mut Names, variables: &mut Variables) -> u32
+// 0 and no Option, as the definition number_in has it: no other token's number is looked at.
+fn meet(at: usize, lexeme: Lexeme, names: &mut Names, variables: &mut Variables) -> u32
     requires in_text { at < length names.old.text.now }
-    requires proper { Proper names.old.text.now at token end × Spaced names.old.text.now at names.old.count }
+    requires proper { Proper names.old.text.now at lexeme.token lexeme.end × Spaced names.old.text.now at names.old.count }
     requires sentence { Sentence names.old variables.old }
-    ensures { Met at token names.old variables.old names.new variables.new result }
+    ensures { Met at lexeme.token names.old variables.old names.new variables.new result }
 {
-    match token {
+    match lexeme.token {
         Token::Name => names.number(at) as u32,
         Token::Call => names.number(at + 1) as u32,
         Token::Variable(start, size) => {
@@ -103,13 +104,7 @@ fn begin() -> Reader
         phase: Phase::Free,
         names: 0,
         variables: 0,
-        state: State {
-            part: taking::OUTSIDE,
-            depth: 0,
-            count: 0,
-            set: kinds::Slots::NONE,
-            number: 0,
-        },
+        state: State::BEGUN,
         len: 0,
     }
 }
@@ -131,7 +126,7 @@ fn say(names: &mut Names, buf: &mut [u8]) -> Result<usize, usize>
             at = lexeme.end;
             continue;
         }
-        let number = meet(at, lexeme.end, lexeme.token, names, &mut variables);
+        let number = meet(at, lexeme, names, &mut variables);
         let known = Reader {
             names: names.count,
             variables: variables.count,
@@ -148,6 +143,7 @@ fn say(names: &mut Names, buf: &mut [u8]) -> Result<usize, usize>
 }
 
 // Hands over what was read, if there is room for it.
+// Here and below text, program and list are the parameters of `read`, which may not change.
 fn give(names: &Names, buf: &[u8], len: usize, program: &mut [u8], list: &mut [u8]) -> Answer
     requires { (length buf.now ≡ 65536) × (length program.old ≤ 65536) }
     ensures { (es : List Bytes) → Filled buf.now (join es) len → outcome (reply_of result) program.new list.new ≡ fitted (says es (named names.now.text.now (firsts names.now.entries) names.now.count)) program.old list.old }

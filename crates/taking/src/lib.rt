@@ -22,6 +22,17 @@ pub struct State {
     pub number: usize,
 }
 
+impl State {
+    // Before the first element of a program.
+    pub const BEGUN: State = State {
+        part: OUTSIDE,
+        depth: 0,
+        count: 0,
+        set: Slots::NONE,
+        number: 0,
+    };
+}
+
 // Why an element is bad: the first test of the definition that it fails. A read element has a known kind and its whole body, so it passes
 // the first two.
 #[derive(Clone, Copy, Debug, PartialEq, Eq)]
@@ -53,6 +64,7 @@ pub const AFTER: usize = 5;
 
 // What may stand where, and the part to which it leads, or 7 for none: a row for each part, a digit for each of 32 kinds. Kinds 10 to 1F
 // cannot stand yet.
+// 7 and no Option: the parts are numbers (see State), a row of digits is a row of the table, and next_part alone reads it.
 static NEXT: [u8; 224] = *b"\
     70000000777777777777777777777777\
     77777777777772767777777777777777\
@@ -86,7 +98,8 @@ pub fn ends_side(kind: u8) -> bool
     kind == kinds::EQUALS || kind == kinds::SENTENCE_END
 }
 
-// The latest open bracket, or 0.
+// The latest open bracket, or 0, as the definition `top` has it: so one comparison tells another bracket and none.
+// The depth goes by value in State and the stack is lent, so that the one fits the other is a clause, here and below.
 pub fn top_of(stack: &[u8], depth: usize) -> u8
     requires { depth ≤ length stack.now }
     ensures { result ≡ top (opened depth stack.now) }
@@ -238,6 +251,7 @@ pub fn state_after(
 }
 
 // Puts one element through the check; a bad one changes nothing.
+// Kind and number are taken out of the element once, here, so that no test has to match it again.
 pub fn take(state: State, e: Element, stack: &mut [u8]) -> Result<State, Fault>
     requires { Ready state stack.old }
     ensures { Steps state (kind_of e) (number_of e) stack.old result stack.new }

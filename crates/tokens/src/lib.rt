@@ -130,6 +130,7 @@ fn digit(b: u8) -> u64
 }
 
 // One digit more; 2^32 stands for every number that is no macrodigit.
+// The definition `capped` has that number too, and an Option would be matched at each digit.
 fn add_digit(v: u64, b: u8) -> u64
     requires { v ≤ 4294967296 }
     ensures { result ≡ capped (v * 10 + (b - 48)) }

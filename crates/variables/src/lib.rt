@@ -1,9 +1,9 @@
 // The numbers of a sentence's variables, by first appearance, for each kind.
 #![tactic(auto)]
 
-ghost use Rattle.std.specs.Prelude.{◌≡◌, ◌∷◌, ◌+◌, ◌≤◌, ◌<◌, length};
+ghost use Rattle.std.specs.Prelude.{◌≡◌, ◌∷◌, map, ◌+◌, ◌≤◌, ◌<◌, length};
 ghost use Rattle.meaning.specs.Elements.{same};
-ghost use Rattle.classes.specs.Table.{part};
+ghost use Rattle.classes.specs.Table.{spelling, part};
 ghost use Rattle.variables.specs.Variables.{Inside};
 ghost use Rattle.variables.specs.Entries.{kinds, starts, sizes};
 
@@ -26,17 +26,17 @@ pub struct Variables<'a> {
     ghost inside: { Inside text.now (kinds entries) (starts entries) (sizes entries) count },
 }
 
-// Whether the n bytes from a on and the m bytes from b on are spelt alike.
-fn same_part(text: &[u8], a: usize, n: usize, b: usize, m: usize) -> bool
-    requires { (a + n ≤ length text.now) × (b + m ≤ length text.now) }
-    ensures { result ≡ same (part text.now a n) (part text.now b m) }
+// Whether two parts are spelt alike.
+fn same_part(a: &[u8], b: &[u8]) -> bool
+    ensures { result ≡ same (map spelling a.now) (map spelling b.now) }
 {
-    if n != m {
+    let n = a.len();
+    if n != b.len() {
         return false;
     }
     for k in 0..n {
-        let x = classes::spelling_of(text[a + k]);
-        let y = classes::spelling_of(text[b + k]);
+        let x = classes::spelling_of(a[k]);
+        let y = classes::spelling_of(b[k]);
         if x != y {
             return false;
         }
@@ -74,13 +74,9 @@ impl<'a> Variables<'a> {
             if entry.kind != kind {
                 continue;
             }
-            if same_part(
-                self.text,
-                start,
-                size,
-                entry.start as usize,
-                entry.size as usize,
-            ) {
+            let from = entry.start as usize;
+            let index = &self.text[from..from + entry.size as usize];
+            if same_part(&self.text[start..start + size], index) {
                 return Ok(number);
             }
             number += 1;

@@ -1,16 +1,15 @@
 use Rattle.checking.specs.Passing.{leaves}
+use mathlib.Core.Logic.{inl, inr}
 use native.Mathlib.Omega.{arith}
 use Rattle.checking.proofs.pass_element.Goals as goal
 
 pub returns-in-Character : goal.returns-in-Character
-returns-in-Character c = rw c.in-Character.is (c.pass_symbol.ensures _ _ _ c.requires.1 (omega arith) (omega arith))
-
-pub returns-in-Name : goal.returns-in-Name
-returns-in-Name c = rw c.in-Name.is (c.pass_symbol-in-Name.ensures _ _ _ c.requires.1 (omega arith) (omega arith))
-
-pub returns-in-Macrodigit : goal.returns-in-Macrodigit
-returns-in-Macrodigit c =
-    rw c.in-Macrodigit.is (c.pass_symbol-in-Macrodigit.ensures _ _ _ c.requires.1 (omega arith) (omega arith))
+returns-in-Character c =
+    elim c.in-Character.is [
+      | inl (n, e) ↦ rw e (c.pass_symbol.ensures _ _ _ c.requires.1 (omega arith) (omega arith))
+      | inr (inl (n, e)) ↦ rw e (c.pass_symbol.ensures _ _ _ c.requires.1 (omega arith) (omega arith))
+      | inr (inr (n, e)) ↦ rw e (c.pass_symbol.ensures _ _ _ c.requires.1 (omega arith) (omega arith))
+    ]
 
 pub returns-in-Open : goal.returns-in-Open
 returns-in-Open c = rw c.in-Open.is (c.pass_bracket.ensures _)

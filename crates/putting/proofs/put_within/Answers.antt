@@ -1,3 +1,4 @@
+use mathlib.Core.Logic.{inl, inr}
 use Rattle.meaning.specs.Elements.{body}
 use Rattle.tokens.specs.Lexemes.{token_of}
 use lib.ListN.{get_or}
@@ -33,11 +34,11 @@ put-requires-in-Variable c =
 
 pub returns-in-Gap : goal.returns-in-Gap
 unfolding token_of within
-returns-in-Gap c = makes_none _ _ (λ p. rw c.in-Gap.is)
-
-pub returns-in-Malformed : goal.returns-in-Malformed
-unfolding token_of within
-returns-in-Malformed c = makes_none _ _ (λ p. rw c.in-Malformed.is)
+returns-in-Gap c =
+    elim c.in-Gap.is [
+      | inl e ↦ makes_none _ _ (λ p. rw e)
+      | inr e ↦ makes_none _ _ (λ p. rw e)
+    ]
 
 pub returns-in-Name : goal.returns-in-Name
 unfolding token_of within

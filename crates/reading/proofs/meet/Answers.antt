@@ -7,13 +7,13 @@ use Rattle.reading.proofs.meet.Goals as goal
 pub number-requires-clause-at_in_bounds : goal.number-requires-clause-at_in_bounds
 unfolding key_at
 number-requires-clause-at_in_bounds c =
-    let p = proper_as c.args.names.now.text.now c.args.at c.args.end c.in-Name.is c.requires.proper.0 in
+    let p = proper_as c.args.names.now.text.now c.args.at c.args.lexeme.end c.in-Name.is c.requires.proper.0 in
     (c.requires.in_text, p.1)
 
 pub number-requires-in-Call-clause-at_in_bounds : goal.number-requires-in-Call-clause-at_in_bounds
 unfolding key_at
 number-requires-in-Call-clause-at_in_bounds c =
-    let p = proper_as c.args.names.now.text.now c.args.at c.args.end c.in-Call.is c.requires.proper.0 in
+    let p = proper_as c.args.names.now.text.now c.args.at c.args.lexeme.end c.in-Call.is c.requires.proper.0 in
     (p.0, p.1)
 
 pub number-requires-in-Variable-clause-room : goal.number-requires-in-Variable-clause-room
@@ -25,16 +25,16 @@ overflow_cast-result-in-Variable c =
 
 pub returns-in-Name : goal.returns-in-Name
 returns-in-Name c =
-    let p = proper_as c.args.names.now.text.now c.args.at c.args.end c.in-Name.is c.requires.proper.0 in
+    let p = proper_as c.args.names.now.text.now c.args.at c.args.lexeme.end c.in-Name.is c.requires.proper.0 in
     met_as_name (names_fit c.args.names.now.short c.requires.in_text p c.requires.proper.1) c.in-Name.is c.number.ensures
 
 pub returns-in-Call : goal.returns-in-Call
 returns-in-Call c =
-    let p = proper_as c.args.names.now.text.now c.args.at c.args.end c.in-Call.is c.requires.proper.0 in
+    let p = proper_as c.args.names.now.text.now c.args.at c.args.lexeme.end c.in-Call.is c.requires.proper.0 in
     met_as_call (calls_fit c.args.names.now.short p c.requires.proper.1) c.in-Call.is c.number-in-Call.ensures
 
 pub returns-in-Variable : goal.returns-in-Variable
 returns-in-Variable c = met_as_variable c.requires.sentence c.type_of.ensures c.number-in-Variable.ensures c.in-Variable.is
 
 pub returns-in_default : goal.returns-in_default
-returns-in_default c = met_as_other c.args.token (opened c.in_default.in_default-own.keys4)
+returns-in_default c = met_as_other c.args.lexeme.token (opened c.in_default.in_default-own.keys4)

@@ -1,7 +1,9 @@
 use mathlib.Core.Path.{◌≡◌}
-use Prim.Native.Nat.{◌+◌, ◌-◌}
-use Rattle.variables.proofs.Parts.{alike}
+use lib.ListN.{drop}
+use mathlib.Core.List.{map}
+use Rattle.meaning.specs.Elements.{same}
+use Rattle.classes.specs.Table.{spelling}
 use Rattle.variables.proofs.same_part.Given as goal
 
 abbrev pub invariant-loop-k : goal.invariant-loop-k
-invariant-loop-k l = alike l.text (l.a + l.k) (l.n - l.k) (l.b + l.k) (l.m - l.k) ≡ alike l.text l.a l.n l.b l.m
+invariant-loop-k l = same (map spelling (drop l.k l.a)) (map spelling (drop l.k l.b)) ≡ same (map spelling l.a) (map spelling l.b)
