@@ -11,12 +11,12 @@ loop-k-init c = refl
 
 pub returns-then-x-y : goal.returns-then-x-y
 returns-then-x-y c =
-    alike_no c.args.a.now c.args.b.now _ c.if-n-b.false c.loop-k-test.true c.spelling_of-x.ensures c.spelling_of-y.ensures c.if-x-y.true
+    alike_no c.args.a.now c.args.b.now _ c.if-n-b.false (omega arith) c.spelling_of-x.ensures c.spelling_of-y.ensures c.if-x-y.true
     ∙ c.loop-k.invariant
 
 pub loop-k-preserved : goal.loop-k-preserved
 loop-k-preserved c =
-    alike_on c.args.a.now c.args.b.now _ c.if-n-b.false c.loop-k-test.true c.spelling_of-x.ensures c.spelling_of-y.ensures c.if-x-y.false
+    alike_on c.args.a.now c.args.b.now _ c.if-n-b.false (omega arith) c.spelling_of-x.ensures c.spelling_of-y.ensures c.if-x-y.false
     ∙ c.loop-k.invariant
 
 pub returns : goal.returns
