@@ -157,7 +157,7 @@ impl Index {
         requires cache { Cache program.now self.old }
         ensures { Cached program.now lo hi result self.new }
     {
-        let slot = slot_of(lo as usize + hi as usize * 256);
+        let slot = slot_of(usize::from(u16::from_le_bytes([lo, hi])));
         self.read_to(program, slot);
         let place = self.spots[slot] as usize;
         if place == 0 {
