@@ -129,7 +129,7 @@ pub fn run(program: &[u8], field: &mut [u8], used: usize, scratch: &mut [u8], bu
     match checking::check_program(program) {
         Ok(()) => run_field(program, field, used, scratch, budget),
         Err(place) => {
-            moving::clear(scratch, 0, scratch.len());
+            scratch.fill(0);
             refusal(Code::BadProgram, used, place)
         }
     }

@@ -9,8 +9,8 @@ ghost use Rattle.scanning.specs.State.{field_at, calm, Good, Next, Advanced, Roo
 use elements::Cursor;
 
 // What is before the gap is field[..lo], what is behind it field[hi..]. The open calls before the gap are noted in calls[..depth], the call
-// brackets behind it, up to `read`, in calls[top..], each by its place. What holds of it are clauses (Good, Stands): they are data, and a ghost
-// field's fact has one proof at most.
+// brackets behind it, up to `read`, in calls[top..], each by its place: no heap, so one list, used from both ends.
+// What holds of it are clauses (Good, Stands): they are data, and a ghost field's fact has one proof at most.
 #[derive(Clone, Copy)]
 pub struct Spread {
     pub lo: usize,
@@ -79,6 +79,7 @@ impl Spread {
         }
     }
 
+    // Roomy, here and below, is of field and notes, which are lent apart, so that no one struct can hold it.
     // Brings all up to the < at `at` before the gap, and notes the call as open.
     fn pass_call(self, field: &mut [u8], at: usize, calls: &mut [u16]) -> Spread
         requires good { Good field.old self.lo self.hi }
