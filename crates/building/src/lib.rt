@@ -1,5 +1,5 @@
-// Builds a right side with the values of its variables, in the place of the leading term. A walk over a side goes by the length that each
-// element has from its kind: it counts no index, and an iterator of our own would be no plainer.
+// Builds a right side with the values of its variables, in the place of the leading term.
+// A walk's steps are as long as the elements, and measure needs each one's place for the pivot, so an iterator would have to give it too.
 #![tactic(auto)]
 
 ghost use Rattle.std.specs.Prelude.{◌≡◌, true, cond, ◌⊎◌, List, [], ◌∷◌, ◌++◌, ℕ, ◌+◌, ◌-◌, ◌≤◌, ◌<◌, length, take, drop, set};
@@ -9,7 +9,7 @@ ghost use Rattle.meaning.proofs.Cutting.{Whole};
 ghost use Rattle.scanning.specs.State.{is_call};
 ghost use Rattle.building.specs.Build.{side_of, right_of, piece, pour, Ready, Known, span_of, spans, calls_of, placed, Given, Spanned, Pivot, Measured, Pivoted, Parted};
 
-// A right side: program[from..to].
+// A right side: program[from..to]. Two places and no slice: the pivot is a place of the program, as Pivot and Measured have it.
 #[derive(Clone, Copy)]
 pub struct Side {
     pub from: usize,

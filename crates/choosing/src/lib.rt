@@ -17,7 +17,7 @@ use elements::Cursor;
 pub const SPOTS: usize = 8192;
 
 // A table of a program's functions, filled as far as it was needed: up to where the program is read, and in each place one more than where
-// the header begins that came first to it, or 0.
+// the header begins that came first to it, or 0: an Option<u16> has four bytes, and the table is cleared at each run.
 // What it holds is a clause, Cache, and no ghost field: such a field's fact has one proof at most, and Cache is proved by data.
 #[derive(Drop)]
 pub struct Index {
@@ -49,6 +49,7 @@ fn seek_kind(program: &[u8], from: Cursor, k: u8) -> Cursor
 }
 
 // Whether a name's number is that of two bytes: one by one, since a processor waits where bytes just written apart are read together.
+// A name stays two bytes, `lo` and `hi`, here and below: so the definitions Looked, Entry and Cached have it.
 fn is_name(number: u32, lo: u8, hi: u8) -> bool
     requires { number < 65536 }
     ensures { Told result (digits 2 number ≡ lo ∷ hi ∷ []) }
@@ -121,6 +122,7 @@ fn slot_of(name: usize) -> usize
 }
 
 impl Index {
+    // `length program ≤ 65536` is a clause, here and below: a place of a header goes into a u16.
     // Reads the element at a cursor into the table, where a header keeps the place that it came first to; hands the moved cursor back.
     fn read_one(&mut self, program: &[u8], c: Cursor) -> Cursor
         requires { Indexed program.now c.at self.old.spots × (c.at < length program.now) × (length program.now ≤ 65536) }
@@ -157,7 +159,7 @@ impl Index {
         requires cache { Cache program.now self.old }
         ensures { Cached program.now lo hi result self.new }
     {
-        let slot = slot_of(lo as usize + hi as usize * 256);
+        let slot = slot_of(usize::from(u16::from_le_bytes([lo, hi])));
         self.read_to(program, slot);
         let place = self.spots[slot] as usize;
         if place == 0 {

@@ -55,6 +55,7 @@ pub enum Unread {
 }
 
 // The kind's byte.
+// By hand: the paper gives the numbers, and eight variants have a body, which no derive turns into a byte.
 pub fn kind_of(x: Element) -> u8
     ensures { result ≡ kind_of x }
 {
@@ -77,7 +78,7 @@ pub fn kind_of(x: Element) -> u8
     }
 }
 
-// The number in the body, or 0.
+// The number in the body, or 0 as the definition number_of has it: an Option would be no plainer.
 pub fn number_of(x: Element) -> u32
     ensures { result ≡ number_of x }
 {
@@ -176,12 +177,13 @@ impl Cursor {
 
     // Past the characters that end at `to` at the latest, up to one with the code `stop`, if that is a byte. Most elements are
     // characters: their stride is fixed, so that a processor can run ahead. `stop` is no `Option<u8>`, as that would take fewer values.
+    // Callers that stop at no code give 256, which no byte is.
     pub fn past_characters(self, s: &[u8], stop: u16, to: usize) -> Cursor
         requires { to ≤ length s.now }
         ensures { Characters s.now stop to self.at result.at }
     {
         let last = to.saturating_sub(1);
-        // A `for` would not say where it ended, and one condition for both exits takes one and a half times as long.
+        // Two exits as two tests: one condition for both, as a take_while has it, takes one and a half times as long.
         let mut at = self.at;
         while at < last {
             if s[at] != kinds::CHARACTER {
@@ -284,7 +286,7 @@ fn shared_end(a: &[u8], b: &[u8], at: usize) -> Option<usize>
     if x == y { Some(next.at) } else { None }
 }
 
-// Past the characters at a place that stand in both there. A `for` would not say where it ended.
+// Past the characters at a place that stand in both there. By hand as past_characters is: chunks, zipped and taken while equal, are no plainer.
 fn shared_characters(a: &[u8], b: &[u8], at: usize) -> usize
     requires { Comparing a.now b.now at }
     ensures { Comparing a.now b.now result × (at ≤ result) }

@@ -1,7 +1,7 @@
 // Where an e-variable's value can end, as far as what comes next in the left side says.
 #![tactic(auto)]
 
-ghost use Rattle.std.specs.Prelude.{◌≡◌, ℕ, ◌≤◌, length, slice_get, Some};
+ghost use Rattle.std.specs.Prelude.{◌≡◌, false, ℕ, ◌≤◌, length, slice_get, Some};
 ghost use Rattle.meaning.specs.Elements.{elements};
 ghost use Rattle.elements.specs.Reading.{Proper, Level};
 ghost use Rattle.settling.specs.Values.{LeftAt, Table, Ready, FreshE};
@@ -40,15 +40,11 @@ fn byte_of(value: &[u8], i: usize) -> Option<u8>
     value.get(i).copied()
 }
 
-// Where what comes next is a value: before its first bytes, or if it is the last of all, where as many bytes are left as it has.
-fn before_value(value: &[u8], last: bool, arg: &[u8]) -> Ahead
+// Where what comes next is a value: before its first bytes.
+fn before_value(value: &[u8], arg: &[u8]) -> Ahead
     requires { Proper (elements value.now) }
-    ensures { Sound result arg.now (Standing value.now last arg.now) }
+    ensures { Sound result arg.now (Standing value.now false arg.now) }
 {
-    if last {
-        let end = arg.len().saturating_sub(value.len());
-        return between(end, end);
-    }
     Ahead {
         first: byte_of(value, 0),
         second: byte_of(value, 1),
@@ -83,10 +79,15 @@ pub fn foresee(left: &[u8], j: usize, values: Values, at: usize, own: usize) -> 
         return before_bracket(left, item.next, values);
     }
     let last = item.next == left.len();
-    if let Some(value) = values.meant(item) {
-        return before_value(value, last, values.arg);
-    }
     let end = values.arg.len();
+    if let Some(value) = values.meant(item) {
+        // The last of all: where as many bytes are left as it has.
+        if last {
+            let only = end.saturating_sub(value.len());
+            return between(only, only);
+        }
+        return before_value(value, values.arg);
+    }
     match item.slot {
         // Twice the same value: two halves.
         Some(slot) if last && slot == own => {

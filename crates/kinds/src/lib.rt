@@ -89,6 +89,7 @@ impl Slots {
     // No slot at all.
     pub const NONE: Slots = Slots { bits: 0 };
 
+    // That a slot is below 48 is a clause, here and in settling: a type for it would be taken apart at each table.
     // Whether a slot is in the set.
     pub fn has(self, slot: usize) -> bool
         requires { slot < 48 }

@@ -2,7 +2,7 @@
 use mathlib.Core.Path.{◌≡◌, refl, ◌∙◌}
 use mathlib.Core.Bool.{true, false}
 use mathlib.Core.Option.{Option, none, some}
-use mathlib.Core.List.{List, ◌++◌}
+use mathlib.Core.List.{List}
 use Prim.Native.Nat.{ℕ, ◌-◌, ◌≤◌}
 use native.Mathlib.Omega.{arith}
 use lib.ListN.{length, take, drop, replicate}
@@ -19,7 +19,6 @@ use Rattle.checking_fields.specs.declared.FieldFault.TheVariants.{Bad, Short}
 use Rattle.std.specs.Prelude.{Ok, Err}
 use Rattle.running.specs.Running.{Checked}
 use Rattle.running.proofs.Start.{scratch_size}
-use Rattle.running.proofs.Closing.{cleared}
 use Rattle.machine.specs.Codes.{Sized}
 
 -- WHAT A CHECK SAYS
@@ -96,9 +95,9 @@ module _ (p f : List ℕ) (used : ℕ) (s : List ℕ) (z : Sized p f used s) whe
 -- THE OTHER REFUSALS
 
 pub bad_program_lem : (p f : List ℕ) (used : ℕ) (s : List ℕ) (budget : ℕ) {place : ℕ} → sizes p f used s ≡ true → bad_program p ≡ some place
-    → (s' : List ℕ) → s' ≡ take 0 s ++ replicate (length s - 0) 0 ++ drop (length s) s → {c k u i : ℕ} → Refused 6 used place c k u i → machine p f used s budget ≡ answer c k u i f s'
+    → (s' : List ℕ) → s' ≡ replicate (length s) 0 → {c k u i : ℕ} → Refused 6 used place c k u i → machine p f used s budget ≡ answer c k u i f s'
 unfolding machine
-bad_program_lem p f used s budget z h s' e (a, b, d, g) = let q = e ∙ cleared s in rw (z, machine) (rw (h, a, b, d, g, q))
+bad_program_lem p f used s budget z h s' e (a, b, d, g) = rw (z, machine) (rw (h, a, b, d, g, e))
 
 pub bad_sizes : (p f : List ℕ) (used : ℕ) (s : List ℕ) (budget : ℕ) → sizes p f used s ≡ false → {c k u i : ℕ} → Refused 5 used 0 c k u i → machine p f used s budget ≡ answer c k u i f s
 unfolding machine

@@ -7,7 +7,7 @@ ghost use Rattle.running.specs.Running.{number_of, Checked};
 ghost use Rattle.machine.specs.Codes.{code_of, Sized};
 
 use checking_fields::FieldFault;
-use running::End;
+use running::{End, Ending};
 
 // Why a run came to its end; the variants stand in the order of the paper's numbers, from 0 on.
 #[derive(Clone, Copy, PartialEq, Eq)]
@@ -51,6 +51,19 @@ impl From<End> for Code {
     }
 }
 
+impl From<Ending> for Answer {
+    ghost from_gives = { λ e a. (code_of a.code ≡ number_of e.end) × (a.steps ≡ e.steps) × (a.used ≡ e.used) × (a.place ≡ e.place) };
+
+    fn from(ending: Ending) -> Answer {
+        Answer {
+            code: Code::from(ending.end),
+            steps: ending.steps,
+            used: ending.used,
+            place: ending.place,
+        }
+    }
+}
+
 // A run that nothing refuses. The arguments of `run` go on as they are: a struct of them would be made once, and taken apart at once.
 fn run_checked(
     program: &[u8],
@@ -63,12 +76,7 @@ fn run_checked(
     ensures { machine program.now field.old used scratch.old budget ≡ answer (code_of result.code) result.steps result.used result.place field.new scratch.new }
 {
     let ran = running::run_good(program, field, used, scratch, budget);
-    Answer {
-        code: Code::from(ran.end),
-        steps: ran.steps,
-        used: ran.used,
-        place: ran.place,
-    }
+    Answer::from(ran)
 }
 
 fn sizes_fit(program: &[u8], field: &[u8], used: usize, scratch: &[u8]) -> bool
@@ -129,7 +137,7 @@ pub fn run(program: &[u8], field: &mut [u8], used: usize, scratch: &mut [u8], bu
     match checking::check_program(program) {
         Ok(()) => run_field(program, field, used, scratch, budget),
         Err(place) => {
-            moving::clear(scratch, 0, scratch.len());
+            scratch.fill(0);
             refusal(Code::BadProgram, used, place)
         }
     }

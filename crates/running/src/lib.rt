@@ -147,7 +147,7 @@ fn run_noting<const N: usize>(
         program, field, used, scratch, budget, &mut calls, &mut binds, &mut index,
     );
     let length = moving::close(field, halt.lo, halt.hi);
-    moving::clear(scratch, 0, scratch.len());
+    scratch.fill(0);
     Ending {
         end: halt.end,
         steps: halt.steps,

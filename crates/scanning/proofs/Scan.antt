@@ -166,13 +166,6 @@ module _ (f : List ℕ) (lo hi read depth top : ℕ) (calls : List ℕ) (good : 
       place_is : at ≡ read + size (calm s.unread)
       place_is = q ∙ ap (λ (l : List Element). read + size (calm l)) unread_is
 
-      pub at_most : at ≤ length f
-      at_most =
-          elim (calmed s.unread) [
-            | all_calm c n6 n7 ↦ omega (arith, total, place_is, ap size c)
-            | then_call g rest i c n6 n7 ↦ omega (arith, total, place_is, ap size i, size-append (calm s.unread) (g ∷ rest))
-          ]
-
       pub none_left : at ≡ length f → holds 6 (field_at f lo hi) ≡ false
       none_left e = go (calmed s.unread)
         where

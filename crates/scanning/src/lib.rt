@@ -1,7 +1,7 @@
 // The field spread over its buffer, with a gap at the place of work; and the call brackets on both sides of it.
 #![tactic(auto)]
 
-ghost use Rattle.std.specs.Prelude.{◌≡◌, ◌+◌, ◌*◌, ◌≤◌, ◌<◌, length, get_or, drop};
+ghost use Rattle.std.specs.Prelude.{◌≡◌, ◌+◌, ◌*◌, ◌≤◌, ◌<◌, length, get_or, drop, MatchOption};
 ghost use Rattle.meaning.specs.Elements.{cut, size};
 ghost use Rattle.meaning.proofs.Cutting.{Whole};
 ghost use Rattle.scanning.specs.State.{field_at, calm, Good, Next, Advanced, Roomy, Stands, Reaches};
@@ -9,8 +9,8 @@ ghost use Rattle.scanning.specs.State.{field_at, calm, Good, Next, Advanced, Roo
 use elements::Cursor;
 
 // What is before the gap is field[..lo], what is behind it field[hi..]. The open calls before the gap are noted in calls[..depth], the call
-// brackets behind it, up to `read`, in calls[top..], each by its place. What holds of it are clauses (Good, Stands): they are data, and a ghost
-// field's fact has one proof at most.
+// brackets behind it, up to `read`, in calls[top..], each by its place: no heap, so one list, used from both ends.
+// What holds of it are clauses (Good, Stands): they are data, and a ghost field's fact has one proof at most.
 #[derive(Clone, Copy)]
 pub struct Spread {
     pub lo: usize,
@@ -27,25 +27,25 @@ pub struct Mark {
     pub spread: Spread,
 }
 
-// The place of the first call bracket from `at` on, or the end.
-fn next_bracket(field: &[u8], at: usize) -> usize
+// The place of the first call bracket from `at` on, if there is one.
+fn next_bracket(field: &[u8], at: usize) -> Option<usize>
     requires at_in_bounds { at ≤ length field.now }
     requires whole { Whole (cut 0 (drop at field.now)) }
-    ensures { result ≡ at + size (calm (cut 0 (drop at field.now))) }
+    ensures { MatchOption result (length field.now ≡ at + size (calm (cut 0 (drop at field.now)))) (λ k. (k ≡ at + size (calm (cut 0 (drop at field.now)))) × (k < length field.now)) }
 {
     let mut c = Cursor { at };
     while c.at < field.len() {
         let passed = c.pass(field);
         if passed.kind == kinds::CALL {
-            return c.at;
+            return Some(c.at);
         }
         if passed.kind == kinds::RETURN {
-            return c.at;
+            return Some(c.at);
         }
         let next = passed.next;
         c = next.past_characters(field, 256, field.len());
     }
-    c.at
+    None
 }
 
 impl Spread {
@@ -64,13 +64,12 @@ impl Spread {
                 spread: s,
             };
         }
-        let at = next_bracket(field, s.read);
-        if at == field.len() {
+        let Some(at) = next_bracket(field, s.read) else {
             return Mark {
                 at: None,
                 spread: s,
             };
-        }
+        };
         let c = Cursor { at };
         let passed = c.pass(field);
         s.read = passed.next.at;
@@ -80,6 +79,7 @@ impl Spread {
         }
     }
 
+    // Roomy, here and below, is of field and notes, which are lent apart, so that no one struct can hold it.
     // Brings all up to the < at `at` before the gap, and notes the call as open.
     fn pass_call(self, field: &mut [u8], at: usize, calls: &mut [u16]) -> Spread
         requires good { Good field.old self.lo self.hi }

@@ -47,6 +47,7 @@ pub fn item_at(left: &[u8], at: usize) -> Item<'_>
 }
 
 // Past an element, if it stands at a place of the argument: its few bytes are compared.
+// `at ≤ length arg` is a clause: the place is another at each step, and a type for it would be taken apart at once.
 fn element_end(bytes: &[u8], arg: &[u8], at: usize) -> Option<usize>
     requires { Proper (elements bytes.now) × (at ≤ length arg.now) }
     ensures { ValueEnd (elements bytes.now) arg.now at result }
@@ -60,6 +61,7 @@ fn element_end(bytes: &[u8], arg: &[u8], at: usize) -> Option<usize>
 }
 
 // Past a value, if it stands at a place of the argument.
+// Not as element_end: values are compared element by element until change request Five, which is to change it alone.
 fn value_end(value: &[u8], arg: &[u8], at: usize) -> Option<usize>
     requires { Proper (elements value.now) × (at ≤ length arg.now) }
     ensures { ValueEnd (elements value.now) arg.now at result }

@@ -58,6 +58,7 @@ pub fn gather(field: &mut [u8], s: Spread, at: usize, calls: &[u16]) -> Lead
 }
 
 // The step at a leading term, with the body of its function known.
+// Field and scratch are lent apart by the caller, so that their lengths are a clause, here and in building.
 fn step_in(
     program: &[u8],
     body: Cursor,
@@ -99,6 +100,7 @@ fn step_in(
 }
 
 // The same, with the function looked up by the term's name.
+// binds, index and calls are lent apart, side by side: Cache, Led and Roomy speak of one each.
 pub fn step_at(
     program: &[u8],
     field: &mut [u8],

@@ -10,4 +10,4 @@ pub returns-in-Err : goal.returns-in-Err
 returns-in-Err c =
     let fit = sym c.sizes_fit.ensures ∙ c.if-not-sizes_fit.false in
     let bad = check_bad (bad_program _) c.in-Err.ensures in
-    bad_program_lem _ _ _ _ _ fit bad _ c.clear.ensures c.refusal-in-Err.ensures
+    bad_program_lem _ _ _ _ _ fit bad _ (c.fill.ensures.after (λ y h. h)) c.refusal-in-Err.ensures

@@ -15,4 +15,4 @@ pub returns : goal.returns
 returns g c =
     let shut = c.close-length.ensures in
     ended _ _ _ _ _ c.steps_from-halt.new.field c.steps_from-halt.new.scratch c.requires.checked c.steps_from-halt.ensures c.steps_from-halt.auto.field c.steps_from-halt.auto.scratch shut.0 shut.1
-    c.clear.ensures
+    (c.fill.ensures.after (λ y h. h))

@@ -6,11 +6,11 @@ use Rattle.scanning.proofs.next_bracket.Goals as goal
 
 pub returns-then-passed-eq-CALL : goal.returns-then-passed-eq-CALL
 returns-then-passed-eq-CALL c =
-    here_open _ _ _ c.loop-c.invariant c.loop-c-test.true (sym c.pass-passed.ensures.kind_is ∙ c.if-passed-eq-CALL.true)
+    (here_open _ _ _ c.loop-c.invariant c.loop-c-test.true (sym c.pass-passed.ensures.kind_is ∙ c.if-passed-eq-CALL.true), c.loop-c-test.true)
 
 pub returns-then-passed-eq-RETURN : goal.returns-then-passed-eq-RETURN
 returns-then-passed-eq-RETURN c =
-    here_close _ _ _ c.loop-c.invariant c.loop-c-test.true (sym c.pass-passed.ensures.kind_is ∙ c.if-passed-eq-RETURN.true)
+    (here_close _ _ _ c.loop-c.invariant c.loop-c-test.true (sym c.pass-passed.ensures.kind_is ∙ c.if-passed-eq-RETURN.true), c.loop-c-test.true)
 
 pub loop-c-smaller : goal.loop-c-smaller
 loop-c-smaller c =
@@ -24,4 +24,7 @@ loop-c-preserved c =
     seek_on (omega arith) (rw (← c.pass-passed.ensures.next_is) at n) c.past_characters-c.ensures
 
 pub returns : goal.returns
-returns c = seek_end _ _ _ c.loop-c.invariant c.loop-c-test.false
+returns c =
+    let e = seek_end _ _ _ c.loop-c.invariant c.loop-c-test.false in
+    let u = c.loop-c.invariant.upto in
+    omega (arith, e, u, c.loop-c-test.false)
