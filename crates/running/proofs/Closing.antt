@@ -1,10 +1,9 @@
 -- From the last step to the answer.
 use mathlib.Core.Path.{◌≡◌, ◌∙◌, ap}
-use mathlib.Core.List.{List, ◌++◌, append-nil}
+use mathlib.Core.List.{List, ◌++◌}
 use Prim.Native.Nat.{ℕ, ◌+◌, ◌-◌}
 use native.Mathlib.Omega.{arith}
 use lib.ListN.{length, take, drop, replicate, length-append, length-take, length-drop}
-use lib.Seq.{drop-length}
 use Rattle.meaning.specs.Elements.{join, size}
 use Rattle.meaning.specs.Machine.{run, closing, machine, answer}
 use Rattle.meaning.proofs.Cutting.{join-cut}
@@ -13,10 +12,6 @@ use Rattle.choosing.specs.Choose.{rest_of}
 use Rattle.running.specs.Running.{number_of, Checked, Halted}
 use Rattle.running.specs.declared.End.{End}
 use Rattle.running.proofs.Start.{rest_all}
-
--- a scratch that was cleared
-pub cleared : (s : List ℕ) → take 0 s ++ replicate (length s - 0) 0 ++ drop (length s) s ≡ replicate (length s) 0
-cleared s = let z : length s - 0 ≡ length s = omega arith in rw (drop-length s, z) (append-nil (replicate (length s) 0))
 
 module _ (p f : List ℕ) (used : ℕ) (s : List ℕ) (budget : ℕ) where
   pub ended : (f1 s1 : List ℕ) {f2 s2 : List ℕ} {e : End} {steps place lo hi n : ℕ} → Checked p f used s → Halted (run (rest_of p 0) (length f) budget 0 (field_of f used)) f1 e steps place lo hi
