@@ -31,13 +31,13 @@ pass-passed-requires c = (rw c.in-Some-next_bracket.is at c.next_bracket.ensures
 
 pub returns : goal.returns
 returns c =
-  let at = rw c.in-Some-next_bracket.is at c.next_bracket.ensures in (
-  refl,
-  refl,
-  refl,
-  record {
-    yes = found_at _ (read_on _ _ _ _ _ _ _ c.requires.good c.requires.standing (ltb-false _ _ (sym c.in_default.ensures.lookup.0)) _ at.0 (λ e. omega (arith, e, at.1))
-        c.requires.notes _ c.pass-passed.ensures.next_is);
-    no = λ z. some_none z;
-  },
-)
+    let at = rw c.in-Some-next_bracket.is at c.next_bracket.ensures in (
+      refl,
+      refl,
+      refl,
+      record {
+        yes = found_at _ (read_on _ _ _ _ _ _ _ c.requires.good c.requires.standing (ltb-false _ _ (sym c.in_default.ensures.lookup.0)) _ at.0 (λ e. omega (arith, e, at.1))
+            c.requires.notes _ c.pass-passed.ensures.next_is);
+        no = λ z. some_none z;
+      },
+    )
