@@ -1,12 +1,13 @@
 // Runs the case files of data/, and prints what each case gives.
 #![tactic(auto)]
 
+ghost use Rattle.std.specs.Prelude.{◌≤◌, length};
+
 use casework::{Case, Hashed};
 use checking_fields::FieldFault;
 use desk::Record;
 use hexing::Hex;
 use machine::{Answer, Code};
-use std::alloc::Global;
 use std::io::{BufWriter, Read, Write};
 use std::{fmt, io};
 
@@ -43,40 +44,33 @@ fn check<R: Read, W: Write>(
     Ok(Some(()))
 }
 
-// Some parts in a row, so many bytes of them at most.
-fn joined(alloc: Global, parts: &[&[u8]], most: usize) -> io::Result<Vec<u8>> {
-    let mut bytes = Vec::new(alloc);
+// Puts some parts into a buffer in a row, as far as they fit; how many bytes of it they take.
+fn join(buf: &mut [u8], parts: &[&[u8]]) -> usize
+    ensures { result ≤ length buf.new }
+{
+    let room = buf.len();
+    let mut rest = buf;
     for part in parts {
-        bytes.extend_from_slice(part)?;
+        let _ = rest.write_all(part);
     }
-    bytes.truncate(most);
-    Ok(bytes)
+    room.saturating_sub(rest.len())
 }
 
-// A step of the program whose one sentence is `left = right`, on a call with that argument: the code, and the field afterwards.
-fn step(alloc: Global, left: &[u8], right: &[u8], arg: &[u8]) -> io::Result<(Code, Vec<u8>)> {
-    let sentence = [b"\x0D\x00\x00", left, b"\x0B", right, b"\x0C\x0E\x0F"];
-    let program = joined(alloc, &sentence, 1024)?;
-    let mut field = joined(alloc, &[b"\x06\x00\x00", arg, b"\x07"], 4096)?;
-    let used = field.len();
-    field.resize(4096, 0)?;
+// A step of the program whose one sentence is `left = right`, on a call with that argument.
+fn step(left: &[u8], right: &[u8], arg: &[u8], field: &mut [u8; 4096]) -> Answer {
+    let mut program = [0u8; 1024];
     let mut scratch = [0u8; 4096];
-    let a = machine::run(&program, &mut field, used, &mut scratch, 1);
-    field.truncate(a.used);
-    Ok((a.code, field))
+    let sentence = [b"\x0D\x00\x00", left, b"\x0B", right, b"\x0C\x0E\x0F"];
+    let length = join(&mut program, &sentence);
+    let used = join(field, &[b"\x06\x00\x00", arg, b"\x07"]);
+    machine::run(&program[..length], field, used, &mut scratch, 1)
 }
 
 // The variable's value, if it stands on the left side: what it gives on the right.
-fn value<W: Write>(
-    out: &mut W,
-    alloc: Global,
-    left: &[u8],
-    arg: &[u8],
-    kind: u8,
-    number: u8,
-) -> io::Result<()> {
-    let (code, field) = step(alloc, left, &[kind, number], arg)?;
-    if code != Code::Done {
+fn value<W: Write>(out: &mut W, left: &[u8], arg: &[u8], kind: u8, number: u8) -> io::Result<()> {
+    let mut field = [0u8; 4096];
+    let a = step(left, &[kind, number], arg, &mut field);
+    if a.code != Code::Done {
         return Ok(());
     }
     let letter = match kind {
@@ -84,19 +78,19 @@ fn value<W: Write>(
         kinds::T_VARIABLE => 't',
         _ => 'e',
     };
-    write!(out, " {letter}{number}={}", Hex::joined(&field))
+    let value = field.get(..a.used).unwrap_or(&[]);
+    write!(out, " {letter}{number}={}", Hex::joined(value))
 }
 
 // Whether a left side fits an argument, and the values of its variables, by kind and number.
-fn fits<W: Write>(out: &mut W, alloc: Global, left: &[u8], arg: &[u8]) -> io::Result<()> {
-    let (code, _) = step(alloc, left, b"", arg)?;
-    match code {
+fn fits<W: Write>(out: &mut W, left: &[u8], arg: &[u8]) -> io::Result<()> {
+    match step(left, b"", arg, &mut [0u8; 4096]).code {
         Code::Done => write!(out, "yes")?,
         Code::NoMatch => return writeln!(out, "no"),
         _ => return writeln!(out, "no left side, or no argument"),
     }
     for v in 0..kinds::SLOTS as u8 {
-        value(out, alloc, left, arg, kinds::S_VARIABLE + v / 16, v % 16)?;
+        value(out, left, arg, kinds::S_VARIABLE + v / 16, v % 16)?;
     }
     writeln!(out, "")
 }
@@ -105,14 +99,13 @@ fn fits<W: Write>(out: &mut W, alloc: Global, left: &[u8], arg: &[u8]) -> io::Re
 fn matching<R: Read, W: Write>(
     file: &mut R,
     out: &mut W,
-    alloc: Global,
     left: &mut [u8],
     arg: &mut [u8],
 ) -> io::Result<Option<()>> {
     let Some(left) = casework::part(file, left) else {
         return Ok(None);
     };
-    fits(out, alloc, left, casework::load(file, arg))?;
+    fits(out, left, casework::load(file, arg))?;
     Ok(Some(()))
 }
 
@@ -212,7 +205,7 @@ fn main(rt: HostRuntime) -> io::Result<()> {
         check(file, &mut out, &mut program, &mut scratch)
     })?;
     casework::each_case(&rt, "matching", |file| {
-        matching(file, &mut out, rt.alloc(), &mut program, &mut field)
+        matching(file, &mut out, &mut program, &mut field)
     })?;
     casework::each_case(&rt, "machine", |file| {
         start(file, &mut program, &mut field, &mut scratch, |case| {

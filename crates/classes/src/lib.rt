@@ -62,12 +62,20 @@ pub fn spelling_of(b: u8) -> u8
     }
 }
 
+// The definition's number of a class.
+fn number(class: Class) -> u8
+    ensures { result ≡ number_of class }
+{
+    class as u8
+}
+
 // Where the longest run of bytes of the classes lo to hi ends that begins at from.
 pub fn run_end(s: &[u8], from: usize, lo: Class, hi: Class) -> usize
     ensures { result ≡ from + length (front (of (number_of lo) (number_of hi)) (drop from s.now)) }
 {
+    let (lo, hi) = (number(lo), number(hi));
     for i in from..s.len() {
-        let k = class_of(s[i]);
+        let k = number(class_of(s[i]));
         if k < lo || hi < k {
             return i;
         }

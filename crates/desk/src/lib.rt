@@ -60,7 +60,10 @@ pub fn desk(noted: &mut Record, program: &[u8], field: &mut [u8], scratch: &mut 
 fn in_field<'a>(field: &'a [u8], used: usize, place: usize) -> &'a [u8]
     ensures { result.now ≡ part_from place (used_field used field.now) }
 {
-    field.get(place..used).unwrap_or(&[])
+    if field.len() < used || used < place {
+        return &[];
+    }
+    &field[place..used]
 }
 
 // The part of the program from the place on, or an empty one.
@@ -78,9 +81,8 @@ pub fn pointer<'a>(answer: Answer, program: &'a [u8], field: &'a [u8]) -> &'a [u
     let place = answer.place;
     match answer.code {
         Code::Done | Code::Paused | Code::BadSizes => &[],
-        Code::NoMatch | Code::NoFunction | Code::NoRoom | Code::BadField => in_field(
-            field, used, place,
-        ),
+        Code::NoMatch | Code::NoFunction | Code::NoRoom => in_field(field, used, place),
         Code::BadProgram => in_program(program, place),
+        Code::BadField => in_field(field, used, place),
     }
 }

@@ -9,7 +9,9 @@ use borrow.Author.Tests.{eq-eqb, ne_eqb}
 use Rattle.names.specs.Names.{key_at, number_at}
 use Rattle.names.specs.Index.{bucket, Index, Added, count_after, Numbered as NumberedIn}
 use Rattle.names.specs.Entries.{firsts, links}
-use Rattle.names.specs.Tables.{Numbered}
+use Rattle.std.specs.Prelude.{Option, Some, None}
+use Rattle.std.specs.Option.{unwrap_or}
+use Rattle.names.specs.Tables.{Found, Numbered}
 use Rattle.names.specs.declared.Entry.{Entry}
 use Rattle.names.specs.declared.Names.{Names}
 use Rattle.names.proofs.Chains.{numbered_new, numbered_old}
@@ -55,7 +57,12 @@ module _ (q : Names) (at b : ℕ) (new : q.count ≡ number_at q.text.now (first
   pub numbered_with : (q' : Names) → (q'.text ≡ q.text) × (q'.entries ≡ entries') × (q'.heads ≡ set q.heads b (r + 1)) × (q'.count ≡ r + 1) → Numbered q at q' r
   numbered_with q' (e, f, h, n) = record { numbered = rw (f, h) numbered; count = n ∙ sym counted; text = e }
 
-pub numbered_same : (q : Names) (at r : ℕ) → (r < q.count) × (r ≡ number_at q.text.now (firsts q.entries) q.count at) → Numbered q at q r
-numbered_same q at r (l, found) =
-    let old : r ≡ q.count → ⊥ = λ e. omega arith in
-    record { numbered = numbered_old q.index at r found old; count = sym (rw (ne_eqb r q.count old)); text = refl }
+-- the table as it was, with a name that is known
+pub numbered_same : (q : Names) (at r : ℕ) → r ≡ number_at q.text.now (firsts q.entries) q.count at → (r ≡ q.count → ⊥) → (q' : Names)
+    → (q'.text ≡ q.text) × (q'.entries ≡ q.entries) × (q'.heads ≡ q.heads) × (q'.count ≡ q.count) → Numbered q at q' r
+numbered_same q at r found old q' (e, f, h, n) = record { numbered = rw (f, h) (numbered_old q.index at r found old); count = n ∙ sym (rw (ne_eqb r q.count old)); text = e }
+
+-- what is found, or else the next number, is the name's number
+pub found_is : (q : Names) (at : ℕ) (o : Option ℕ) → Found q at o → unwrap_or o q.count ≡ number_at q.text.now (firsts q.entries) q.count at
+found_is q at (Some k) h = h.1
+found_is q at None h = h

@@ -154,16 +154,16 @@ impl<'a> Names<'a> {
         ensures { Numbered self.old at self.new result }
     {
         let b = bucket_of(self.text, at);
-        if let Some(known) = self.find(at, b) {
-            return known;
+        let count = self.count;
+        let number = self.find(at, b).unwrap_or(count);
+        if number == count {
+            self.entries[count] = Entry {
+                first: at as u16,
+                link: self.heads[b],
+            };
+            self.heads[b] = (count + 1) as u16;
         }
-        let number = self.count;
-        self.entries[number] = Entry {
-            first: at as u16,
-            link: self.heads[b],
-        };
-        self.heads[b] = (number + 1) as u16;
-        self.count = number + 1;
+        self.count = count + usize::from(number == count);
         number
     }
 

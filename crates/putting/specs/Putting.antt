@@ -23,6 +23,10 @@ phase_of P.Owed = owed
 phase_of P.Named = named
 phase_of P.Inside = inside
 
+-- the definition's phases by their numbers
+unfoldable pub phase_numbered : ℕ → Meant
+phase_numbered n = cond (eqb n 1) between (cond (eqb n 2) owed (cond (eqb n 3) named (cond (eqb n 4) inside free)))
+
 -- the phase, and the number of variables, behind an element of kind k
 unfoldable pub phase_next : ℕ → Phase → Phase
 phase_next k p = cond (eqb k 13) P.Named (cond (eqb k 14) P.Between p)

@@ -8,7 +8,7 @@ ghost use Rattle.elements.specs.Bytes.{kind_of, number_of, digits};
 ghost use Rattle.text.specs.Tokens.{quoted};
 ghost use Rattle.text.specs.Reading.{element, put_all, type_of, is_sign, entering};
 ghost use Rattle.tokens.specs.Lexemes.{characters_of, token_of};
-ghost use Rattle.putting.specs.Putting.{phase_next, kept_count, Written, Able, Onward, past_character, Closes, further_by, Sure, Runs, braced, signing, making_within, making_header, Entered};
+ghost use Rattle.putting.specs.Putting.{phase_of, phase_numbered, phase_next, kept_count, Written, Able, Onward, past_character, Closes, further_by, Sure, Runs, braced, signing, making_within, making_header, Entered};
 
 use elements::Element;
 use taking::State;
@@ -23,6 +23,21 @@ pub enum Phase {
     Owed,
     Named,
     Inside,
+}
+
+// The phases by their numbers, in the order of the definition; any other number is the first's.
+impl From<usize> for Phase {
+    ghost from_gives = { λ n p. phase_of p ≡ phase_numbered n };
+
+    fn from(number: usize) -> Phase {
+        match number {
+            1 => Phase::Between,
+            2 => Phase::Owed,
+            3 => Phase::Named,
+            4 => Phase::Inside,
+            _ => Phase::Free,
+        }
+    }
 }
 
 // Where reading stands: the phase, the names so far, the variables of this sentence, the check, and the bytes so far.

@@ -1,12 +1,14 @@
 -- What reading a text answers lies within both outputs and the text.
-use mathlib.Core.Path.{◌≡◌, sym, subst}
+use mathlib.Core.Path.{◌≡◌, sym, ◌∙◌, ap, subst}
 use mathlib.Core.Bool.{Bool, true, false, cond, ◌&&◌}
 use mathlib.Core.List.{List}
 use Prim.Native.Nat.{ℕ, ◌≤◌}
 use native.Mathlib.Omega.{arith}
 use lib.ListN.{length, length-append}
 use lib.Dec.{leb}
+use borrow.Author.Tests.{leb-true}
 use Rattle.meaning.specs.Elements.{join}
+use Rattle.meaning.proofs.Truth.{is_true, is_false, see, and_left}
 use Rattle.text.specs.Reading.{Said, says, amiss, said}
 use Rattle.text.specs.Answers.{Outcome, outcome, reply, filled, list_of, fitted, read_text}
 use Rattle.text.proofs.Promises.{place_in, place_in_text}
@@ -42,10 +44,22 @@ unfolding read_text
 outputs text program list =
     either (leb (length text) 65536 && leb (length program) 65536 && leb (length list) 65536) _ _ (fitted-within (said text) program list) (refused_within 5 0 program list)
 
+abbrev code_in : Outcome → ℕ
+code_in (outcome (reply code p n place) program list) = code
+
+-- a text that is too long is not called bad
+sized : (text program list : List ℕ) → code_in (read_text text program list) ≡ 8 → length text ≤ 65536
+unfolding read_text
+sized text program list h =
+    elim (see (leb (length text) 65536 && leb (length program) 65536 && leb (length list) 65536)) [
+      | is_true t ↦ leb-true _ 65536 (and_left _ _ (and_left _ _ t))
+      | is_false f ↦ absurd (let z : ◌≡◌ {A = ℕ} 5 8 = rw f at h in omega arith)
+    ]
+
 pub read_within : (text program list : List ℕ) (code p n place : ℕ) (program' list' : List ℕ)
     → outcome (reply code p n place) program' list' ≡ read_text text program list
-    → (p ≤ length program') × (n ≤ length list') × (place ≤ length text)
+    → (p ≤ length program') × (n ≤ length list') × (place ≤ length text) × (code ≡ 8 → length text ≤ 65536)
 unfolding Within
 read_within text program list code p n place program' list' h =
     let (a, b) = subst Within (sym h) (outputs text program list) in
-    (a, b, subst (λ (o : Outcome). place_in o ≤ length text) (sym h) (place_in_text text program list))
+    (a, b, subst (λ (o : Outcome). place_in o ≤ length text) (sym h) (place_in_text text program list), λ e. sized text program list (ap code_in (sym h) ∙ e))

@@ -63,13 +63,15 @@ fn room(b: u8) -> u8 {
     if b == b'\t' { b } else { b' ' }
 }
 
+// A part of a line, in one write.
 fn draw<W: Write, F: Fn(u8) -> u8>(out: &mut W, bytes: &[u8], drawn: F) -> io::Result<()>
     requires { F.IsAlwaysCallable drawn }
 {
-    for b in bytes {
-        out.write_all(&[drawn(*b)])?;
+    let mut line = [0u8; WIDTH];
+    for (b, to) in bytes.iter().zip(&mut line) {
+        *to = drawn(*b);
     }
-    Ok(())
+    out.write_all(&line[..bytes.len().min(WIDTH)])
 }
 
 // The line of a place, and a caret below it; a long line is cut around the place.

@@ -12,13 +12,12 @@ use lib.Seq.{drop-cons, drop-drop, get_or-drop}
 use lib.Dec.{eqb, leb, ltb}
 use borrow.Author.Tests.{eq-eqb, ne_eqb, le-leb, lt-leb, leb-true, leb-false, ltb-true, ltb-false}
 use Rattle.meaning.specs.Goodness.{span}
-use Rattle.meaning.proofs.Truth.{is_true, is_false, see, or_right, and_left, and_right, span_le}
+use Rattle.meaning.proofs.Truth.{never, is_true, is_false, see, or_right, and_left, and_right, span_le}
 use Rattle.text.specs.Classes.{class_of, of, is_capital, is_letter, is_digit, in_name, in_line, front, spell}
 use Rattle.text.specs.Tokens.{name, call, string, variable, sign, Lexeme as Meant, token, gap, wrong, tail_of, spelled, identifier, as_name, as_call, real, value, number, trim, dotted, apart, indexed, Quoted as Chars, unclosed, closed, quoted, as_string, commented, as_gap, slashed, lex_of, lex}
 use Rattle.classes.specs.Table.{number_of, spelling, part}
 use Rattle.classes.specs.declared.Class.{Class}
-use Rattle.classes.specs.declared.Class.TheVariants.{Other, Blank, Capital, Small, Digit, Dash, LineEnd}
-use Rattle.classes.proofs.Order.{other_than}
+use Rattle.classes.specs.declared.Class.TheVariants.{Other, Blank, Small, Dash, LineEnd}
 use Rattle.classes.proofs.Runs.{of_yes, of_low, of_high, of_eq, of_ne, run_yes, run_no, run_past, run_most}
 use Rattle.tokens.specs.Lexemes.{past_name, closed_at, past_at, ended, Sums, column_at, number_at, starred_at, Trimmed, dotted_at, lex_at, characters_of, token_of, lexeme_of, Proper, Tells}
 use Rattle.tokens.specs.declared.Token.{Token}
@@ -84,6 +83,12 @@ module _ (at : ℕ) (t : Token) (o : Option ℕ) (r : Lexeme) (e : r ≡ ended a
   ended_some : {k : ℕ} → o ≡ Some k → (r.token ≡ t) × (r.end ≡ k)
   ended_some {k} d = (let f : r ≡ ended at t (Some k) = e ∙ ap (ended at t) d in (ap (λ (z : Lexeme). z.token) f, ap (λ (z : Lexeme). z.end) f))
 
+none_some : {A : Type 0} {k : ℕ} → ◌≡◌ {A = Option ℕ} None (Some k) → A
+none_some e = never (cc)
+
+some_same : {a b : ℕ} → ◌≡◌ {A = Option ℕ} (Some a) (Some b) → a ≡ b
+some_same e = cc
+
 module _ (s : List ℕ) (at : ℕ) {o : Option ℕ} {r : Lexeme} where
   pub name_told : o ≡ past_name at (identifier (drop at s)) → r ≡ ended at T.Name o → Tells s at r (as_name (identifier (drop at s)))
   unfolding lexeme_of token_of
@@ -97,14 +102,24 @@ module _ (s : List ℕ) (at : ℕ) {o : Option ℕ} {r : Lexeme} where
             (omega arith, rw h (ap {B = Meant} (λ n. token (name (spelled (drop at s))) n) w), (rw (get_or-drop at s 0 0, z) at k, q, refl))
       ]
 
-  pub call_told : o ≡ past_name (at + 1) (identifier (drop (at + 1) s)) → r ≡ ended at T.Call o → Tells s at r (as_call (identifier (drop (at + 1) s)))
+module _ (s : List ℕ) (at : ℕ) {r : Lexeme} where
+  pub call_none : None ≡ past_name (at + 1) (identifier (drop (at + 1) s)) → (r.token ≡ T.Malformed) × (r.end ≡ at + 1) → Tells s at r (as_call (identifier (drop (at + 1) s)))
   unfolding lexeme_of token_of
-  call_told d e =
+  call_none d e =
       elim (see_name (drop (at + 1) s)) [
-        | no_name h ↦ tells_wrong (ended_none at T.Call o r e (d ∙ ap (past_name (at + 1)) h)) (rw h)
+        | no_name h ↦ tells_wrong e (rw h)
+        | a_name h p q k ↦ none_some (d ∙ ap (past_name (at + 1)) h)
+      ]
+
+  pub call_some : {k : ℕ} → Some k ≡ past_name (at + 1) (identifier (drop (at + 1) s)) → (r.token ≡ T.Call) × (r.end ≡ k) → Tells s at r (as_call (identifier (drop (at + 1) s)))
+  unfolding lexeme_of token_of
+  call_some d (f, e) =
+      elim (see_name (drop (at + 1) s)) [
+        | no_name h ↦ none_some (sym (d ∙ ap (past_name (at + 1)) h))
         | a_name h p q k ↦
             let w : at + 1 + length (spelled (drop (at + 1) s)) - (at + 1) ≡ length (spelled (drop (at + 1) s)) = omega arith in
-            tells T.Call (at + 1 + length (spelled (drop (at + 1) s))) (ended_some at T.Call o r e (d ∙ ap (past_name (at + 1)) h))
+            let there = e ∙ some_same (d ∙ ap (past_name (at + 1)) h) in
+            tells T.Call (at + 1 + length (spelled (drop (at + 1) s))) (f, there)
             (omega arith, rw h (ap {B = Meant} (λ n. token (call (spelled (drop (at + 1) s))) n) w), (spelled_inside s (at + 1) p, q, refl))
       ]
 
@@ -457,15 +472,6 @@ module _ (s : List ℕ) (i k : ℕ) where
     pub apart_no : 3 ≤ k → k ≤ 7 → (k ≡ 5 → ⊥) → false ≡ apart (drop i s)
     unfolding apart
     apart_no p q n = rw (drop-cons s i 0 l, of_yes 3 7 _ k e p q, of_ne 5 _ k e n)
-
-pub touching : (k : Class) → (k ≡ Capital) ⊎ ((k ≡ Small) ⊎ ((k ≡ Digit) ⊎ (k ≡ Dash))) → (3 ≤ number_of k) × (number_of k ≤ 7) × (number_of k ≡ 5 → ⊥)
-touching k (inl e) = rw e (omega arith, omega arith, λ z. omega arith)
-touching k (inr (inl e)) = rw e (omega arith, omega arith, λ z. omega arith)
-touching k (inr (inr (inl e))) = rw e (omega arith, omega arith, λ z. omega arith)
-touching k (inr (inr (inr e))) = rw e (omega arith, omega arith, λ z. omega arith)
-
-pub beside : (k : Class) → (k ≡ Capital → ⊥) → (k ≡ Small → ⊥) → (k ≡ Digit → ⊥) → (k ≡ Dash → ⊥) → 3 ≤ number_of k → number_of k ≤ 7 → number_of k ≡ 5
-beside k a b c d p q = omega (arith, other_than k Capital a, other_than k Small b, other_than k Digit c, other_than k Dash d)
 
 -- BY CLASS
 

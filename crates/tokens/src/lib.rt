@@ -73,7 +73,11 @@ fn call(s: &[u8], at: usize) -> Lexeme
     requires { at < length s.now }
     ensures { Tells s.now at result (as_call (identifier (drop (at + 1) s.now))) }
 {
-    ending(at, Token::Call, identifier_end(s, at + 1))
+    let name = at + 1;
+    let Some(end) = identifier_end(s, name) else {
+        return spanning(Token::Malformed, name);
+    };
+    spanning(Token::Call, end)
 }
 
 // Where a string ends, past its closing quote, and how many characters it has.
@@ -275,11 +279,14 @@ fn dotted(s: &[u8], at: usize) -> Lexeme
 fn is_apart(s: &[u8], at: usize) -> bool
     ensures { result ≡ apart (drop at s.now) }
 {
-    s.len() <= at
-        || !matches!(
-            classes::class_of(s[at]),
-            Class::Capital | Class::Small | Class::Digit | Class::Dash
-        )
+    if s.len() <= at {
+        return true;
+    }
+    let class = classes::class_of(s[at]);
+    if class == Class::Typed || class < Class::Capital {
+        return true;
+    }
+    Class::Dash < class
 }
 
 fn is_index(class: Class) -> bool

@@ -2,8 +2,7 @@ use mathlib.Core.Path.{◌≡◌}
 use Prim.Native.Nat.{◌+◌}
 use lib.ListN.{length, drop}
 use Rattle.text.specs.Classes.{of, front}
-use Rattle.classes.specs.Table.{number_of}
 use Rattle.classes.proofs.run_end.Given as goal
 
 abbrev pub invariant-loop-i : goal.invariant-loop-i
-invariant-loop-i l = l.i + length (front (of (number_of l.lo) (number_of l.hi)) (drop l.i l.s)) ≡ l.from + length (front (of (number_of l.lo) (number_of l.hi)) (drop l.from l.s))
+invariant-loop-i l = l.i + length (front (of l.lo l.hi) (drop l.i l.s)) ≡ l.from + length (front (of l.lo l.hi) (drop l.from l.s))

@@ -1,9 +1,13 @@
-use mathlib.Core.Path.{refl, ap, ◌∙◌}
-use denote.Bor.{Bor}
-use mathlib.Core.List.{List}
-use Prim.Native.Nat.{ℕ}
-use Rattle.desk.proofs.Pointing.{part_found}
+use Rattle.desk.proofs.Pointing.{used_past_field, place_past_used, inside_used}
 use Rattle.desk.proofs.in_field.Goals as goal
+use Rattle.desk.proofs.in_field.Goals.{then-field-used-via-then-field-used, then-field-used-via-else-field-used+then-used-place}
+
+pub returns-then-field-used : goal.returns-then-field-used
+returns-then-field-used c =
+    elim c.then-field-used.branch [
+      | then-field-used-via-then-field-used w ↦ used_past_field _ _ _ w.if-field-used.true
+      | then-field-used-via-else-field-used+then-used-place w ↦ place_past_used _ _ _ w.if-field-used.false w.if-used-place.true
+    ]
 
 pub returns : goal.returns
-returns c = ap (λ (x : Bor (List ℕ)). x.now) c.unwrap_or.ensures ∙ part_found c.args.used c.args.place c.args.field.now c.get.result _ refl c.get.ensures.lookup.0
+returns c = inside_used _ _ _ c.if-field-used.false c.if-used-place.false

@@ -11,8 +11,12 @@ pub returns-in-NoMatch : goal.returns-in-NoMatch
 unfolding pointer
 returns-in-NoMatch c =
     let h = c.in_field.ensures in
-    ⊎_elim (λ e. rw e h) (⊎_elim (λ e. rw e h) (⊎_elim (λ e. rw e h) (λ e. rw e h))) c.in-NoMatch.is
+    ⊎_elim (λ e. rw e h) (⊎_elim (λ e. rw e h) (λ e. rw e h)) c.in-NoMatch.is
 
 pub returns-in-BadProgram : goal.returns-in-BadProgram
 unfolding pointer
 returns-in-BadProgram c = rw c.in-BadProgram.is c.in_program.ensures
+
+pub returns-in-BadField : goal.returns-in-BadField
+unfolding pointer
+returns-in-BadField c = rw c.in-BadField.is c.in_field-in-BadField.ensures

@@ -12,7 +12,7 @@ loop-b-preserved g c = λ plain.
     let b = get_or others n 0 in
     let done = c.loop-b.invariant plain in
     let first = c.write_str.ensures.writes done.plain (search rules) in
-    let second = c.pair-in-loop-b.ensures first.plain (search rules) in
+    let second = c.put_pair-in-loop-b.ensures first.plain (search rules) in
     let same = append_assoc (behind between (take n others)) between (pair_of b) ∙ flat_map_more (λ b. between ++ pair_of b) [] (take n others) b
     ∙ ap (behind between) (sym (take_more others n 0 c.loop-b-test.true)) in
     has_written_of_eq _ _ _ _ _ same (has_written_append _ _ _ _ _ _ (has_written_append _ _ _ _ _ _ done first) second)
@@ -22,7 +22,7 @@ returns-clause-writes g c = λ plain _.
     let between = c.args.self.now.between.now in
     let others = c.in-Some.others.now in
     let first = c.in-Some.first.now in
-    let one = c.pair.ensures plain (search rules) in
+    let one = c.put_pair.ensures plain (search rules) in
     let bytes : c.args.self.now.bytes.now ≡ first ∷ others = search rules in
     let same = ap (λ t. pair_of first ++ behind between t) (take_all c.loop-b.b-index others c.loop-b-test.false) ∙ ap (spelled between) (sym bytes) in
     has_written_of_eq _ _ _ _ _ same (has_written_append _ _ _ _ _ _ one (c.loop-b.invariant one.plain))

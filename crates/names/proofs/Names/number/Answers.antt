@@ -1,23 +1,46 @@
-use mathlib.Core.Path.{◌≡◌, refl}
+use mathlib.Core.Path.{◌≡◌, refl, sym, ap, ◌∙◌}
+use mir.Val.{bool_byte}
+use Prim.Native.Nat.{◌+◌}
+use native.Mathlib.Omega.{arith}
 use lib.ListN.{length}
 use borrow.Author.Rules.{rules}
-use Rattle.names.proofs.Entries.{index_with, numbered_with, numbered_same}
+use borrow.Author.Tests.{eq-eqb, ne_eqb}
+use Rattle.names.proofs.Entries.{index_with, numbered_with, numbered_same, found_is}
 use Rattle.names.proofs.Names.number.Goals as goal
-
-pub returns-in-Some : goal.returns-in-Some
-returns-in-Some c = numbered_same c.args.self.now c.args.at _ c.in-Some.ensures
+use Rattle.names.proofs.Names.number.Goals.{then-number-count, else-number-count}
 
 pub invariant_of-self : goal.invariant_of-self
 invariant_of-self c =
     let q = c.args.self.now in
-    let long : length q.entries ≡ 32768 = search rules in
-    record {
-      short = q.short;
-      index = index_with q c.args.at _ c.in_default.ensures c.requires.at_in_bounds c.requires.room long c.bucket_of-b.ensures;
-    }
+    let found = c.unwrap_or-number.ensures ∙ found_is q c.args.at _ c.find.ensures in
+    elim c.if-number-count.branch [
+      | then-number-count w ↦
+          let long : length q.entries ≡ 32768 = search rules in
+          let new = sym w.if-number-count.true ∙ found in
+          let one : c.from.result ≡ 1 = c.from.ensures ∙ ap bool_byte (eq-eqb _ _ w.if-number-count.true) in
+          let more : q.count + c.from.result ≡ q.count + 1 = ap (λ n. q.count + n) one in
+          rw w.self-is (record { short = q.short; index = rw more (index_with q c.args.at _ new c.requires.at_in_bounds c.requires.room long c.bucket_of-b.ensures) })
+      | else-number-count w ↦
+          let none : c.from.result ≡ 0 = c.from.ensures ∙ ap bool_byte (ne_eqb _ _ w.if-number-count.false) in
+          let same : q.count + c.from.result ≡ q.count = omega (arith, none) in
+          rw w.self-is (record { short = q.short; index = rw same q.index })
+    ]
 
 pub returns : goal.returns
 returns c =
     let q = c.args.self.now in
-    let long : length q.entries ≡ 32768 = search rules in
-    numbered_with q c.args.at _ c.in_default.ensures c.requires.at_in_bounds c.requires.room long c.bucket_of-b.ensures _ (refl, refl, refl, refl)
+    let found = c.unwrap_or-number.ensures ∙ found_is q c.args.at _ c.find.ensures in
+    elim c.if-number-count.branch [
+      | then-number-count w ↦
+          let long : length q.entries ≡ 32768 = search rules in
+          let new = sym w.if-number-count.true ∙ found in
+          let one : c.from.result ≡ 1 = c.from.ensures ∙ ap bool_byte (eq-eqb _ _ w.if-number-count.true) in
+          let more : q.count + c.from.result ≡ q.count + 1 = ap (λ n. q.count + n) one in
+          rw w.if-number-count.true
+          (numbered_with q c.args.at _ new c.requires.at_in_bounds c.requires.room long c.bucket_of-b.ensures _
+          (refl, ap (λ x. x.1.1.0) w.self-is, ap (λ x. x.1.1.1.0) w.self-is, more))
+      | else-number-count w ↦
+          let none : c.from.result ≡ 0 = c.from.ensures ∙ ap bool_byte (ne_eqb _ _ w.if-number-count.false) in
+          let same : q.count + c.from.result ≡ q.count = omega (arith, none) in
+          numbered_same q c.args.at _ found w.if-number-count.false _ (refl, ap (λ x. x.1.1.0) w.self-is, ap (λ x. x.1.1.1.0) w.self-is, same)
+    ]

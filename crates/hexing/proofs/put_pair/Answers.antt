@@ -2,7 +2,7 @@ use Rattle.std.proofs.Common.{◌-◌, ◌^◌, [], false, true, rules}
 use Rattle.std.proofs.Output.{has_written_of_eq}
 use Rattle.std.proofs.lemmas.Fmt.{hex_byte}
 use Rattle.std.specs.Fmt.{HasWritten, digits, format_spec, padded_integral}
-use Rattle.hexing.proofs.pair.Goals as goal
+use Rattle.hexing.proofs.put_pair.Goals as goal
 
 pub returns : goal.returns
 returns g c = λ plain ok.
