@@ -62,7 +62,7 @@ pub fn spelling_of(b: u8) -> u8
     }
 }
 
-// The definition's number of a class.
+// The definition's number of a class; spans of classes are spans of these numbers.
 fn number(class: Class) -> u8
     ensures { result ≡ number_of class }
 {

@@ -11,7 +11,7 @@ use native.Mathlib.Omega.{arith}
 use lib.ListN.{length, take, drop, length-drop}
 use lib.Seq.{drop-nil, take_all, length-take-le}
 use lib.Dec.{leb}
-use borrow.Author.Tests.{le-leb, lt-leb, leb-true, leb-false}
+use borrow.Author.Tests.{le-leb, lt-leb}
 use Rattle.meaning.specs.Pointer.{part_from, used_field, pointer}
 use Rattle.meaning.proofs.Truth.{is_true, is_false, see}
 use Rattle.building.proofs.Sides.{drop-take}
@@ -42,18 +42,7 @@ module _ (used place : ℕ) (f : List ℕ) where
       let t : leb place (length (take used f)) ≡ true = le-leb place (length (take used f)) (omega (arith, length-take-le used f h)) in
       rw (le-leb used (length f) h) (rw t (sym (drop-take place (used - place) f) ∙ rw q))
 
--- what a part that is asked for is, or an empty one where it is not there
-pub part_found : (used place : ℕ) (f : List ℕ) (o : Option (Bor (List ℕ))) (d : Bor (List ℕ)) → d.now ≡ []
-    → MatchOption o ((used < place) ⊎ (length f < used)) (λ x. (place ≤ used) × (used ≤ length f) × (x.now ≡ slice_range f place used) × (length x.now + place ≡ used))
-    → (unwrap_or o d).now ≡ part_from place (used_field used f)
-part_found used place f (Some x) d e h = h.2 ∙ inside_used used place f h.1 h.0
-part_found used place f None d e (inr k) = e ∙ used_past_field used place f k
-part_found used place f None d e (inl k) =
-    elim (see (leb used (length f))) [
-      | is_true z ↦ e ∙ place_past_used used place f (leb-true _ _ z) k
-      | is_false z ↦ e ∙ used_past_field used place f (leb-false _ _ z)
-    ]
-
+-- what the rest of a part is, or an empty one where it is not there
 pub rest_found : (place : ℕ) (p : List ℕ) (o : Option (Bor (List ℕ))) (d : Bor (List ℕ)) → d.now ≡ []
     → MatchOption o ((length p < place) ⊎ (length p < length p)) (λ x. (place ≤ length p) × (length p ≤ length p) × (x.now ≡ slice_range p place (length p)) × (length x.now + place ≡ length p))
     → (unwrap_or o d).now ≡ part_from place p

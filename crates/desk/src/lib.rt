@@ -83,6 +83,7 @@ pub fn pointer<'a>(answer: Answer, program: &'a [u8], field: &'a [u8]) -> &'a [u
         Code::Done | Code::Paused | Code::BadSizes => &[],
         Code::NoMatch | Code::NoFunction | Code::NoRoom => in_field(field, used, place),
         Code::BadProgram => in_program(program, place),
+        // An arm apart, since this place is an element's and no call's.
         Code::BadField => in_field(field, used, place),
     }
 }

@@ -1,5 +1,5 @@
 // Expands start.bin by rules.bin, and prints the answer and the field.
-// No heap: where memory is short, it does what it did.
+// No heap: it cannot end for want of memory.
 #![tactic(auto)]
 
 ghost use Rattle.std.specs.Prelude.{◌≤◌, length, IfSome};
@@ -15,7 +15,7 @@ const MOST: usize = 65536;
 const PART: usize = 64;
 
 // Reads until a buffer is full, or the file ends or cannot be read; how many bytes of the buffer are read.
-// By hand: the library's read_to_end takes heap, and its copy reads on where a read fails once.
+// By hand: the library's read_to_end takes heap, and its copy goes on behind an interrupted read.
 fn read_full<R: Read>(file: &mut R, buf: &mut [u8]) -> usize
     ensures { result ≤ length buf.new }
 {
@@ -42,26 +42,39 @@ fn load(files: &impl Files, path: &str, buf: &mut [u8]) -> Option<usize>
     if more == 0 { Some(length) } else { None }
 }
 
-// A part of a line in hex, a space before each byte; of a longer part, its beginning.
-fn put_part<W: Write>(out: &mut W, part: &[u8]) -> io::Result<()> {
+// A part of a line in hex, a space behind each byte, but for the last so many bytes of it.
+fn put_part<W: Write>(out: &mut W, part: &[u8], left_out: usize) -> io::Result<()> {
     let mut line = [b' '; 3 * PART];
     let (triples, _) = line.as_chunks_mut::<3>();
     for (b, triple) in part.iter().zip(triples) {
         let [high, low] = hexing::pair(*b);
-        *triple = [b' ', high, low];
+        *triple = [high, low, b' '];
     }
-    out.write_all(&line[..3 * part.len().min(PART)])
+    let length = 3 * part.len().min(PART);
+    out.write_all(&line[..length.saturating_sub(left_out)])
 }
 
 // Bytes in hex with single spaces. By hand and in parts: by `hexing::Hex`, a long line takes more than twice as long.
 fn hex_line<W: Write>(out: &mut W, bytes: &[u8]) -> io::Result<()> {
-    if let Some((first, others)) = bytes.split_first() {
-        out.write_all(&hexing::pair(*first))?;
-        for part in others.chunks(PART) {
-            put_part(out, part)?;
-        }
+    let followed = bytes.len().saturating_sub(1) / PART * PART;
+    let (parts, last) = bytes.split_at(followed);
+    for part in parts.chunks(PART) {
+        put_part(out, part, 0)?;
+    }
+    if !last.is_empty() {
+        put_part(out, last, 1)?;
     }
     out.write_all(b"\n")
+}
+
+fn numbers<W: Write>(
+    out: &mut W,
+    code: u8,
+    steps: u32,
+    used: usize,
+    place: usize,
+) -> io::Result<()> {
+    writeln!(out, "{code} {steps} {used} {place}")
 }
 
 fn expand<W: Write>(
@@ -72,13 +85,13 @@ fn expand<W: Write>(
     scratch: &mut [u8],
 ) -> io::Result<()> {
     let a = machine::run(program, field, used, scratch, 1000000);
-    let code = machine::number(a.code);
-    writeln!(out, "{code} {} {} {}", a.steps, a.used, a.place)?;
+    numbers(out, machine::number(a.code), a.steps, a.used, a.place)?;
     hex_line(out, field.get(..a.used).unwrap_or(&[]))
 }
 
 fn too_long<W: Write>(out: &mut W) -> io::Result<()> {
-    writeln!(out, "5 0 0 0\n")
+    numbers(out, 5, 0, 0, 0)?;
+    hex_line(out, b"")
 }
 
 fn run<W: Write>(files: &impl Files, out: &mut W) -> io::Result<()> {

@@ -62,7 +62,11 @@ pub numbered_same : (q : Names) (at r : ℕ) → r ≡ number_at q.text.now (fir
     → (q'.text ≡ q.text) × (q'.entries ≡ q.entries) × (q'.heads ≡ q.heads) × (q'.count ≡ q.count) → Numbered q at q' r
 numbered_same q at r found old q' (e, f, h, n) = record { numbered = rw (f, h) (numbered_old q.index at r found old); count = n ∙ sym (rw (ne_eqb r q.count old)); text = e }
 
--- what is found, or else the next number, is the name's number
+-- what is found, or else the next number, is the name's number, and at most the next
 pub found_is : (q : Names) (at : ℕ) (o : Option ℕ) → Found q at o → unwrap_or o q.count ≡ number_at q.text.now (firsts q.entries) q.count at
 found_is q at (Some k) h = h.1
 found_is q at None h = h
+
+pub found_most : (q : Names) (at : ℕ) (o : Option ℕ) → Found q at o → unwrap_or o q.count ≤ q.count
+found_most q at (Some k) h = omega (arith, h.0)
+found_most q at None h = omega arith

@@ -163,7 +163,7 @@ impl<'a> Names<'a> {
             };
             self.heads[b] = (count + 1) as u16;
         }
-        self.count = count + usize::from(number == count);
+        self.count = count.max(number + 1);
         number
     }
 

@@ -40,7 +40,7 @@ fn load(files: &impl Files, path: &str, buf: &mut [u8]) -> io::Result<usize>
     read_full(&mut file, buf)
 }
 
-// Reading, with what its answer means for a caller: program and list lie within their buffers, and a bad place within the text.
+// Reading, with what its answer means for a caller: program and list lie within their buffers, and a bad place in a text that is not too long.
 fn read_into(text: &[u8], program: &mut [u8], list: &mut [u8]) -> Answer
     ensures program_in_bounds { (result.program ≤ length program.new) × (result.names ≤ length list.new) }
     ensures place_in_bounds { (result.place ≤ length text.now) × (code_of result.code ≡ 8 → length text.now ≤ 65536) }

@@ -8,12 +8,12 @@ use std::io::Write;
 // The most bytes of a line that are shown.
 const WIDTH: usize = 120;
 
-// The line that a place is on: its number from 1, and its bytes before and behind the place.
+// The line that a place is on: its number from 1, its bytes, and how many of them stand before the place.
 #[derive(Clone, Copy)]
 struct Line<'a> {
     number: usize,
-    before: &'a [u8],
-    behind: &'a [u8],
+    bytes: &'a [u8],
+    before: usize,
 }
 
 // Whether a line begins at a place: at the start of the text, after an LF, or after a CR to which no LF belongs.
@@ -30,7 +30,8 @@ fn begins(text: &[u8], at: usize) -> bool
 
 fn line_of(text: &[u8], place: usize) -> Line<'_>
     requires { place ≤ length text.now }
-    ensures { length result.before.now ≤ place }
+    ensures before_in_bounds { result.before ≤ length result.bytes.now }
+    ensures place_bound { result.before ≤ place }
 {
     // By hand: of what `filter` and `last` or `rfind` give, no proof was found that it lies within the range.
     let mut number: usize = 1;
@@ -41,12 +42,14 @@ fn line_of(text: &[u8], place: usize) -> Line<'_>
             start = at;
         }
     }
-    let (before, behind) = text.split_at(place);
-    let end = behind.iter().position(|b| *b == b'\n' || *b == b'\r');
+    let end = text[place..]
+        .iter()
+        .position(|b| *b == b'\n' || *b == b'\r');
+    let end = end.map_or(text.len(), |behind| place + behind);
     Line {
         number,
-        before: &before[start..],
-        behind: &behind[..end.unwrap_or(behind.len())],
+        bytes: &text[start..end],
+        before: place - start,
     }
 }
 
@@ -75,15 +78,18 @@ fn draw<W: Write, F: Fn(u8) -> u8>(out: &mut W, bytes: &[u8], drawn: F) -> io::R
 }
 
 // The line of a place, and a caret below it; a long line is cut around the place.
-fn show<W: Write>(out: &mut W, line: Line<'_>) -> io::Result<()> {
-    let room_before = WIDTH.saturating_sub(line.behind.len()).max(WIDTH / 2);
-    let left = line.before.len().min(room_before);
-    let right = line.behind.len().min(WIDTH - left);
-    let before = &line.before[line.before.len() - left..];
-    draw(out, before, shown)?;
-    draw(out, &line.behind[..right], shown)?;
+fn show<W: Write>(out: &mut W, line: Line<'_>) -> io::Result<()>
+    requires { line.before ≤ length line.bytes.now }
+{
+    let (before, behind) = line.bytes.split_at(line.before);
+    let left = before
+        .len()
+        .min(WIDTH.saturating_sub(behind.len()).max(WIDTH / 2));
+    let right = behind.len().min(WIDTH - left);
+    let from = before.len() - left;
+    draw(out, &line.bytes[from..line.before + right], shown)?;
     writeln!(out, "")?;
-    draw(out, before, room)?;
+    draw(out, &before[from..], room)?;
     writeln!(out, "^")
 }
 
@@ -93,7 +99,7 @@ pub fn point_out<W: Write>(out: &mut W, file: &str, text: &[u8], place: usize) -
 {
     let line = line_of(text, place);
     let number = line.number;
-    let column = line.before.len() + 1;
+    let column = line.before + 1;
     writeln!(
         out,
         "{file}:{number}:{column}: {}",

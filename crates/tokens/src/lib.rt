@@ -73,6 +73,7 @@ fn call(s: &[u8], at: usize) -> Lexeme
     requires { at < length s.now }
     ensures { Tells s.now at result (as_call (identifier (drop (at + 1) s.now))) }
 {
+    // Not by `ending`: only here a name has to follow.
     let name = at + 1;
     let Some(end) = identifier_end(s, name) else {
         return spanning(Token::Malformed, name);

@@ -1,11 +1,9 @@
 use mathlib.Core.Path.{◌≡◌, refl, sym, ap, ◌∙◌}
-use mir.Val.{bool_byte}
-use Prim.Native.Nat.{◌+◌}
+use Prim.Native.Nat.{◌+◌, ◌≤◌}
 use native.Mathlib.Omega.{arith}
 use lib.ListN.{length}
 use borrow.Author.Rules.{rules}
-use borrow.Author.Tests.{eq-eqb, ne_eqb}
-use Rattle.names.proofs.Entries.{index_with, numbered_with, numbered_same, found_is}
+use Rattle.names.proofs.Entries.{index_with, numbered_with, numbered_same, found_is, found_most}
 use Rattle.names.proofs.Names.number.Goals as goal
 use Rattle.names.proofs.Names.number.Goals.{then-number-count, else-number-count}
 
@@ -17,12 +15,11 @@ invariant_of-self c =
       | then-number-count w ↦
           let long : length q.entries ≡ 32768 = search rules in
           let new = sym w.if-number-count.true ∙ found in
-          let one : c.from.result ≡ 1 = c.from.ensures ∙ ap bool_byte (eq-eqb _ _ w.if-number-count.true) in
-          let more : q.count + c.from.result ≡ q.count + 1 = ap (λ n. q.count + n) one in
+          let more : c.max-self.result ≡ q.count + 1 = omega (arith, w.if-number-count.true) in
           rw w.self-is (record { short = q.short; index = rw more (index_with q c.args.at _ new c.requires.at_in_bounds c.requires.room long c.bucket_of-b.ensures) })
       | else-number-count w ↦
-          let none : c.from.result ≡ 0 = c.from.ensures ∙ ap bool_byte (ne_eqb _ _ w.if-number-count.false) in
-          let same : q.count + c.from.result ≡ q.count = omega (arith, none) in
+          let most : c.unwrap_or-number.result ≤ q.count = rw c.unwrap_or-number.ensures (found_most q c.args.at _ c.find.ensures) in
+          let same : c.max-self.result ≡ q.count = omega (arith, most, w.if-number-count.false) in
           rw w.self-is (record { short = q.short; index = rw same q.index })
     ]
 
@@ -34,13 +31,12 @@ returns c =
       | then-number-count w ↦
           let long : length q.entries ≡ 32768 = search rules in
           let new = sym w.if-number-count.true ∙ found in
-          let one : c.from.result ≡ 1 = c.from.ensures ∙ ap bool_byte (eq-eqb _ _ w.if-number-count.true) in
-          let more : q.count + c.from.result ≡ q.count + 1 = ap (λ n. q.count + n) one in
+          let more : c.max-self.result ≡ q.count + 1 = omega (arith, w.if-number-count.true) in
           rw w.if-number-count.true
           (numbered_with q c.args.at _ new c.requires.at_in_bounds c.requires.room long c.bucket_of-b.ensures _
           (refl, ap (λ x. x.1.1.0) w.self-is, ap (λ x. x.1.1.1.0) w.self-is, more))
       | else-number-count w ↦
-          let none : c.from.result ≡ 0 = c.from.ensures ∙ ap bool_byte (ne_eqb _ _ w.if-number-count.false) in
-          let same : q.count + c.from.result ≡ q.count = omega (arith, none) in
+          let most : c.unwrap_or-number.result ≤ q.count = rw c.unwrap_or-number.ensures (found_most q c.args.at _ c.find.ensures) in
+          let same : c.max-self.result ≡ q.count = omega (arith, most, w.if-number-count.false) in
           numbered_same q c.args.at _ found w.if-number-count.false _ (refl, ap (λ x. x.1.1.0) w.self-is, ap (λ x. x.1.1.1.0) w.self-is, same)
     ]
