@@ -100,7 +100,7 @@ pub fn point_out<W: Write>(out: &mut W, file: &str, text: &[u8], place: usize) -
     let line = line_of(text, place);
     let number = line.number;
     let column = line.before + 1;
-    writeln!(
+    write!(
         out,
         "{file}:{number}:{column}: {}",
         wording::wrong(text, place)
