@@ -100,15 +100,12 @@ pub fn foresee(left: &[u8], j: usize, values: Values, at: usize, own: usize) -> 
     }
 }
 
-// Whether a value can end at a place.
+// Whether a value can end at a place. Where a first byte is known the two places are the argument's ends, and not looked at.
 fn can_end(w: Ahead, arg: &[u8], at: usize) -> bool
     ensures { MayEnd w arg.now at result }
 {
-    if at < w.earliest || w.latest < at {
-        return false;
-    }
     let Some(first) = w.first else {
-        return true;
+        return w.earliest <= at && at <= w.latest;
     };
     if arg.len() <= at || arg[at] != first {
         return false;

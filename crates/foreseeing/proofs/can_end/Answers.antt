@@ -2,20 +2,22 @@ use Rattle.foreseeing.specs.Foresight.{early, late, other_kind, other_second, ma
 use Rattle.foreseeing.proofs.Foreseen.{third_told}
 use native.Mathlib.Omega.{arith}
 use mathlib.Core.Path.{refl}
-use Rattle.meaning.proofs.Truth.{never}
+use lib.Dec.{leb}
+use borrow.Author.Tests.{lt-leb, leb-false}
+use Rattle.meaning.proofs.Truth.{never, is_true, is_false, see}
 use Rattle.std.proofs.lemmas.Option.{slice_get_within, get_or_from_slice_get}
-use Rattle.foreseeing.proofs.can_end.Goals.{then-at-w-via-then-at-w, then-at-w-via-else-at-w+then-w-at, then-arg-at-via-then-arg-at, then-arg-at-via-else-arg-at+then-arg-at-2}
+use Rattle.foreseeing.proofs.can_end.Goals.{then-arg-at-via-then-arg-at, then-arg-at-via-else-arg-at+then-arg-at-2}
 use Rattle.foreseeing.proofs.can_end.Goals as goal
 
-pub returns-then-at-w : goal.returns-then-at-w
-returns-then-at-w c =
-    elim c.then-at-w.branch [
-      | then-at-w-via-then-at-w w ↦ may_not (early w.if-at-w.true)
-      | then-at-w-via-else-at-w+then-w-at w ↦ may_not (late w.if-w-at.true)
+pub returns-then-w-at : goal.returns-then-w-at
+returns-then-w-at c =
+    elim (see (leb c.args.at c.args.w.latest)) [
+      | is_true z ↦ rw z may
+      | is_false z ↦ rw z (may_not (late (leb-false _ _ z)))
     ]
 
-pub returns-in_default : goal.returns-in_default
-returns-in_default c = may
+pub returns-else-w-at : goal.returns-else-w-at
+returns-else-w-at c = rw (lt-leb _ _ c.if-w-at.false) (may_not (early c.if-w-at.false))
 
 pub returns-then-arg-at : goal.returns-then-arg-at
 returns-then-arg-at c =
