@@ -216,12 +216,17 @@ module _ (s : List ℕ) (at : ℕ) (h : at < length s) where
         | head_close q f c ↦ never (let w : get_or s at 0 ≡ 5 = sym (kind_here s at h) ∙ ap kind f in omega arith)
       ]
 
-  pub no_term_here : get_or s at 0 ≡ 5 → TermEnd s at None
-  no_term_here e = no_term (λ v es t q. starts v es t (sym (cut_here s at h) ∙ q))
+  pub no_term_here : is_symbol (get_or s at 0 ∷ []) ≡ false → (get_or s at 0 ≡ 4 → ⊥) → TermEnd s at None
+  unfolding is_symbol
+  no_term_here n n4 = no_term (λ v es t q. starts v es t (sym (cut_here s at h) ∙ q))
     where
       starts : (v es : List (List ℕ)) → Terms 1 v → here s at h ∷ elements (drop (at + 1 + body (get_or s at 0)) s) ≡ v ++ es → ⊥
-      starts v es (symbol {e = x} t r) q = never (let i : here s at h ≡ x = cc in let w = symbol_kind x t in let z : kind x ≡ get_or s at 0 = sym (ap kind i) ∙ kind_here s at h in omega arith)
-      starts v es (bracket r r' q') q = never (let i : here s at h ≡ 4 ∷ [] = cc in let z : get_or s at 0 ≡ 4 = sym (kind_here s at h) ∙ ap kind i in omega arith)
+      starts v es (symbol {e = x} t r) q =
+          let i : here s at h ≡ x = cc in
+          let k : kind x ≡ get_or s at 0 = sym (ap kind i) ∙ kind_here s at h in
+          let y : is_symbol (get_or s at 0 ∷ []) ≡ true = rw k at (T_true (is_symbol x) t) in
+          never (cc)
+      starts v es (bracket r r' q') q = n4 (let i : here s at h ≡ 4 ∷ [] = cc in sym (kind_here s at h) ∙ ap kind i)
 
 pub no_symbol_end : (s : List ℕ) (at : ℕ) → length s ≤ at → SymbolEnd s at None
 no_symbol_end s at h = no_symbol (λ e es t q. never (cc (none_left s at h)))

@@ -252,9 +252,10 @@ pub fn term_end(s: &[u8], at: usize) -> Option<usize>
     ensures { TermEnd s.now at result }
 {
     match *s.get(at)? {
-        kinds::CLOSE => None,
+        // Most terms are symbols.
+        k if kinds::is_symbol(k) => Some(at + kinds::length_of(k)),
         kinds::OPEN => Some(shut_end(s, at + 1)),
-        k => Some(at + kinds::length_of(k)),
+        _ => None,
     }
 }
 

@@ -5,8 +5,8 @@ use mathlib.Core.List.{List, [], ◌∷◌}
 use Prim.Native.Nat.{ℕ, suc, ◌+◌, ◌-◌, ◌*◌, ◌%◌, ◌≤◌, ◌<◌}
 use native.Mathlib.Omega.{arith}
 use native.Mathlib.Numerals.{add-one}
-use lib.ListN.{length, get_or, drop, set, length-set}
-use lib.Seq.{drop-cons, drop-drop}
+use lib.ListN.{length, get_or, take, drop, set, length-set, length-drop}
+use lib.Seq.{drop-cons, drop-drop, get_or-drop, get_or-take, length-take-le}
 use lib.Dec.{eqb, ltb}
 use borrow.Author.Tests.{eq-eqb, ne_eqb, eqb-true, eqb-false}
 use Rattle.meaning.proofs.Truth.{is_true, is_false, see}
@@ -216,6 +216,14 @@ module _ (q : Reader) {limit : ℕ} (side : span 3 4 q.state.part ≡ true) (is-
             let f = r.going es q₀ st₀ buf₀ st a g in
             (turn f r.shut l p (plain_led k (get_or s (i + k) 0) (going_able a f) small h w)).0;
       }
+
+-- before the quote that is looked for in s[i..i + n]
+pub no_quote : (s : List ℕ) (i n r quote : ℕ) → i + n ≤ length s → r ≤ length (take (i + n - i) (drop i s))
+    → ((k : ℕ) → k < r → get_or (take (i + n - i) (drop i s)) k 0 ≡ quote → ⊥) → (r ≤ n) × ((k : ℕ) → k < r → get_or s (i + k) 0 ≡ quote → ⊥)
+no_quote s i n r quote h l f =
+    let e : i + n - i ≡ n = omega arith in
+    let m : r ≤ n = omega (arith, rw e at l, length-take-le n (drop i s) (let z = length-drop i s in omega arith)) in
+    (m, λ k t q. f k t (rw e (get_or-take n (drop i s) k 0 (omega arith) ∙ get_or-drop i s k 0 ∙ q)))
 
 -- before the first
 pub runs_none : {s : List ℕ} {quote last i : ℕ} (q : Reader) (buf : List ℕ) → Closes s quote i last → Runs s quote last i q buf i q buf

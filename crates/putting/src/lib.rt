@@ -164,6 +164,13 @@ fn sure(reader: Reader, limit: usize, bytes: usize, left: usize) -> usize
     left.min(side).min(space)
 }
 
+// How many characters stand before the first quote.
+fn before_quote(text: &[u8], quote: u8) -> usize
+    ensures { (result ≤ length text.now) × ((k : ℕ) → k < result → get_or text.now k 0 ≡ quote → ⊥) }
+{
+    text.iter().position(|b| *b == quote).unwrap_or(text.len())
+}
+
 // Puts characters that surely are good, up to the next quote.
 fn put_run(text: &[u8], from: usize, last: usize, quote: u8, reader: Reader, buf: &mut [u8]) -> Run
     requires { Closes text.now quote from last }
@@ -178,17 +185,12 @@ fn put_run(text: &[u8], from: usize, last: usize, quote: u8, reader: Reader, buf
     if n == 0 {
         return none;
     }
+    // The quote is looked for first: a loop that only writes takes many characters at once.
+    let n = before_quote(&text[from..from + n], quote);
     let len = reader.len;
     for k in 0..n {
-        let b = text[from + k];
-        if b == quote {
-            return Run {
-                at: from + k,
-                reader: further(reader, k),
-            };
-        }
         buf[len + 2 * k] = kinds::CHARACTER;
-        buf[len + 2 * k + 1] = b;
+        buf[len + 2 * k + 1] = text[from + k];
     }
     Run {
         at: from + n,

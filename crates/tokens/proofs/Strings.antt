@@ -1,8 +1,7 @@
 -- A string's end and the number of its characters, byte by byte.
 use mathlib.Core.Path.{◌≡◌, refl, sym, ◌∙◌, ap, ap₂}
-use mathlib.Core.Bool.{Bool, true, false, not}
+use mathlib.Core.Bool.{Bool, true, false}
 use mathlib.Core.List.{List, [], ◌∷◌}
-use mir.Val.{bool_byte}
 use Prim.Native.Nat.{ℕ, ◌+◌, ◌≤◌, ◌<◌}
 use native.Mathlib.Omega.{arith}
 use native.Mathlib.Numerals.{add-one}
@@ -78,39 +77,29 @@ module _ (s : List ℕ) (q i n : ℕ) where
   unfolding quoted
   out_free h = rw (drop_of_length-le s h)
 
--- where the loop stands, m characters before the place j; a held quote lies inside
-abbrev pub Stands : List ℕ → ℕ → Bool → ℕ → ℕ → Option Closed → Type 0
-Stands s q held j m all = (Closing s q held j m ≡ all) × (m ≤ j) × (held ≡ true → j ≤ length s)
+-- where the loop stands, m characters before the place j
+abbrev pub Stands : List ℕ → ℕ → ℕ → ℕ → Option Closed → Type 0
+Stands s q j m all = (Closing s q false j m ≡ all) × (m ≤ j)
 
 -- a turn of the loop, and its ends
-module _ (s : List ℕ) (q i n : ℕ) {all : Option Closed} where
-  pub turn_quote : (held : Bool) → Stands s q held i n all → i < length s → get_or s i 0 ≡ q → {d : ℕ} → d ≡ bool_byte held → Stands s q (not held) (i + 1) (n + d) all
-  turn_quote true (inv, m, p) h e {d} f =
-      let o : d ≡ 1 = f in
-      rw o (sym (quote_held s q i n h e) ∙ inv, omega arith, λ z. omega arith)
-  turn_quote false (inv, m, p) h e {d} f =
-      let o : n + d ≡ n = omega (arith, f) in
-      rw o (sym (quote_free s q i n h e) ∙ inv, omega arith, λ z. omega arith)
+module _ (s : List ℕ) (q i n : ℕ) {all : Option Closed} (inv : Stands s q i n all) where
+  pub end_open : length s ≤ i → None ≡ all
+  end_open h = out_free s q i n h ∙ inv.0
 
-  module _ (held : Bool) (inv : Stands s q held i n all) where
-    under : (b : Bool) → held ≡ b → Closing s q b i n ≡ all
-    under b h = ap (λ (x : Bool). Closing s q x i n) (sym h) ∙ inv.0
+  module _ (h : i < length s) where
+    module _ (e : get_or s i 0 ≡ q) where
+      pub turn_doubled : i + 1 < length s → get_or s (i + 1) 0 ≡ q → Stands s q (i + 1 + 1) (n + 1) all
+      turn_doubled l f = (sym (quote_held s q (i + 1) n l f) ∙ sym (quote_free s q i n h e) ∙ inv.0, (let m : n ≤ i = inv.1 in omega arith))
 
-    module _ (h : i < length s) (e : get_or s i 0 ≡ q → ⊥) where
-      pub turn_on : held ≡ false → (k : ℕ) → k ≡ class_of (get_or s i 0) → (k ≡ 12 → ⊥) → Stands s q held (i + 1) (n + 1) all
-      turn_on t k d z =
-          (ap (λ (x : Bool). Closing s q x (i + 1) (n + 1)) t ∙ sym (other_on s q i n h e k d z) ∙ under false t, (let m : n ≤ i = inv.1 in omega arith), λ u. omega arith)
+      pub end_single : i + 1 < length s → (get_or s (i + 1) 0 ≡ q → ⊥) → Some (record { end = i + 1; characters = n }) ≡ all
+      end_single l f = other_held s q (i + 1) n l f ∙ sym (quote_free s q i n h e) ∙ inv.0
 
-      pub end_held : held ≡ true → Some (record { end = i; characters = n }) ≡ all
-      end_held t = other_held s q i n h e ∙ under true t
+      pub end_last : length s ≤ i + 1 → Some (record { end = i + 1; characters = n }) ≡ all
+      end_last l = out_held s q (i + 1) n l ∙ sym (quote_free s q i n h e) ∙ inv.0
 
-      pub end_line : held ≡ false → (k : ℕ) → k ≡ class_of (get_or s i 0) → k ≡ 12 → None ≡ all
-      end_line t k d z = other_end s q i n h e k d z ∙ under false t
+    module _ (e : get_or s i 0 ≡ q → ⊥) where
+      pub turn_on : (k : ℕ) → k ≡ class_of (get_or s i 0) → (k ≡ 12 → ⊥) → Stands s q (i + 1) (n + 1) all
+      turn_on k d z = (sym (other_on s q i n h e k d z) ∙ inv.0, (let m : n ≤ i = inv.1 in omega arith))
 
-    pub end_out : length s ≤ i → held ≡ true → Some (record { end = length s; characters = n }) ≡ all
-    end_out h t =
-        let l : length s ≡ i = omega (arith, inv.2 t) in
-        ap {B = Option Closed} (λ j. Some (record { end = j; characters = n })) l ∙ out_held s q i n h ∙ under true t
-
-    pub end_open : length s ≤ i → held ≡ false → None ≡ all
-    end_open h t = out_free s q i n h ∙ under false t
+      pub end_line : (k : ℕ) → k ≡ class_of (get_or s i 0) → k ≡ 12 → None ≡ all
+      end_line k d z = other_end s q i n h e k d z ∙ inv.0

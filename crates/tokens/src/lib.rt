@@ -93,27 +93,23 @@ fn quoted_from(s: &[u8], at: usize, q: u8) -> Option<Closed>
     ensures { result ≡ closed_at at 0 (quoted q false (drop at s.now)) }
 {
     let mut characters: usize = 0;
-    let mut held = false;
-    for i in at..s.len() {
+    let mut i = at;
+    // A quote inside is doubled, so no range has the places.
+    while i < s.len() {
         let b = s[i];
         if b == q {
-            characters += usize::from(held);
-            held = !held;
-            continue;
-        }
-        if held {
-            return Some(Closed { end: i, characters });
-        }
-        if classes::class_of(b) == Class::LineEnd {
+            if i + 1 == s.len() || s[i + 1] != q {
+                return Some(Closed {
+                    end: i + 1,
+                    characters,
+                });
+            }
+            i += 1;
+        } else if classes::class_of(b) == Class::LineEnd {
             return None;
         }
         characters += 1;
-    }
-    if held {
-        return Some(Closed {
-            end: s.len(),
-            characters,
-        });
+        i += 1;
     }
     None
 }

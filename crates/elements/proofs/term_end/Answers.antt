@@ -1,8 +1,10 @@
 use mathlib.Core.Path.{sym, ◌∙◌}
+use mathlib.Core.List.{◌∷◌, []}
 use Rattle.elements.proofs.Levels.{shutting_here, bracketed}
-use Rattle.elements.proofs.Places.{behind, no_term_end, no_term_here, symbol_here}
+use Rattle.elements.proofs.Places.{behind, no_term_end, no_term_here, symbol_here, symbol_kind}
 use Rattle.elements.specs.Reading.{term_at}
 use Rattle.meaning.specs.Matching.{symbol, stop}
+use Rattle.meaning.proofs.Truth.{true_T}
 use native.Mathlib.Omega.{arith}
 use Rattle.elements.proofs.term_end.Goals as goal
 
@@ -10,24 +12,27 @@ pub returns-in_err-k : goal.returns-in_err-k
 returns-in_err-k c =
     rw c.from_residual.ensures (no_term_end c.args.s.now c.args.at (let h = c.in_err-k.ensures.lookup in omega (arith, h)))
 
+pub returns-then-is_symbol : goal.returns-then-is_symbol
+returns-then-is_symbol c =
+    let (h, d) = c.in_ok-k.ensures.lookup.3 in
+    let e = d 0 in
+    let t = rw e at (sym c.is_symbol.ensures ∙ c.if-is_symbol.true) in
+    let k = symbol_kind (_ ∷ []) (true_T _ t) in
+    let (t, p) = symbol_here c.args.s.now c.args.at h c.requires.balanced (λ e. omega (arith, k, e)) (λ e. omega (arith, k, e)) in
+    rw (behind c.args.at _ (rw e at c.length_of.ensures.0)) (term_at (symbol t stop) p)
+
 pub shut_end-requires : goal.shut_end-requires
 shut_end-requires c =
     let (h, d) = c.in_ok-k.ensures.lookup.3 in
     shutting_here c.args.s.now c.args.at h c.requires (sym (d 0) ∙ c.in-4.is)
-
-pub returns-in-5 : goal.returns-in-5
-returns-in-5 c =
-    let (h, d) = c.in_ok-k.ensures.lookup.3 in
-    no_term_here c.args.s.now c.args.at h (sym (d 0) ∙ c.in-5.is)
 
 pub returns-in-4 : goal.returns-in-4
 returns-in-4 c =
     let (h, d) = c.in_ok-k.ensures.lookup.3 in
     bracketed c.args.s.now c.args.at _ h c.requires (sym (d 0) ∙ c.in-4.is) c.shut_end.ensures
 
-pub returns-in_default : goal.returns-in_default
-returns-in_default c =
+pub returns-in_default-2 : goal.returns-in_default-2
+returns-in_default-2 c =
     let (h, d) = c.in_ok-k.ensures.lookup.3 in
     let e = d 0 in
-    let (t, p) = symbol_here c.args.s.now c.args.at h c.requires.balanced (λ q. omega arith) (λ q. omega arith) in
-    rw (behind c.args.at _ (rw e at c.length_of.ensures.0)) (term_at (symbol t stop) p)
+    no_term_here c.args.s.now c.args.at h (rw e at (sym c.is_symbol.ensures ∙ c.if-is_symbol.false)) (λ q. omega arith)
