@@ -11,7 +11,7 @@ use borrow.Author.Tests.{leb-true, leb-false}
 use Rattle.meaning.specs.Elements.{kind, body, cut, elements, join, is_symbol}
 use Rattle.meaning.specs.Goodness.{span}
 use Rattle.meaning.specs.Matching.{Terms, symbol, bracket}
-use Rattle.meaning.proofs.Truth.{never, and_left, and_right, T_true, is_true, is_false, see, span_le}
+use Rattle.meaning.proofs.Truth.{never, and_left, and_right, T_true, true_T, is_true, is_false, see, span_le}
 use Rattle.meaning.proofs.Cutting.{cut_at as cut-there, join-cut, join-append}
 use Rattle.kinds.proofs.Bodies.{body-known}
 use Rattle.elements.specs.declared.Element.{Element}
@@ -186,15 +186,22 @@ module _ (s : List ℕ) (at : ℕ) (h : at < length s) where
         | head_close q e c ↦ absurd (n5 (ap kind e))
       ]
 
-  pub no_symbol_here : is_symbol (get_or s at 0 ∷ []) ≡ false → SymbolEnd s at None
+  -- as the code finds it out: by its kind, with its length
+  pub symbol_told : {d n : ℕ} → Balanced d (elements (drop at s)) → is_symbol (get_or s at 0 ∷ []) ≡ true → n ≡ 1 + body (get_or s at 0)
+      → T (is_symbol (here s at h)) × Splits s at (here s at h ∷ []) (at + n)
+  symbol_told b t l =
+      let k = symbol_kind (get_or s at 0 ∷ []) (true_T _ t) in
+      let (i, p) = symbol_here b (λ q. omega (arith, k, q)) (λ q. omega (arith, k, q)) in
+      (i, rw (behind at _ l) p)
+
+  kind_told : (e : List ℕ) → T (is_symbol e) → here s at h ≡ e → is_symbol (get_or s at 0 ∷ []) ≡ true
   unfolding is_symbol
-  no_symbol_here z = no_symbol (λ e es t q. other e t (cc (cut_here s at h)))
-    where
-      other : (e : List ℕ) → T (is_symbol e) → here s at h ≡ e → ⊥
-      other e t i =
-          let k : kind e ≡ get_or s at 0 = sym (ap kind i) ∙ kind_here s at h in
-          let y : is_symbol (get_or s at 0 ∷ []) ≡ true = rw k at (T_true (is_symbol e) t) in
-          never (cc)
+  kind_told e t i =
+      let k : kind e ≡ get_or s at 0 = sym (ap kind i) ∙ kind_here s at h in
+      rw k at (T_true (is_symbol e) t)
+
+  pub no_symbol_here : is_symbol (get_or s at 0 ∷ []) ≡ false → SymbolEnd s at None
+  no_symbol_here z = no_symbol (λ e es t q. never (let y = kind_told e t (cc (cut_here s at h)) in cc))
 
   pub open_here : {d : ℕ} → Balanced d (elements (drop at s)) → get_or s at 0 ≡ 4 → Balanced (suc d) (elements (drop (at + 1) s))
   unfolding here body
@@ -217,15 +224,10 @@ module _ (s : List ℕ) (at : ℕ) (h : at < length s) where
       ]
 
   pub no_term_here : is_symbol (get_or s at 0 ∷ []) ≡ false → (get_or s at 0 ≡ 4 → ⊥) → TermEnd s at None
-  unfolding is_symbol
   no_term_here n n4 = no_term (λ v es t q. starts v es t (sym (cut_here s at h) ∙ q))
     where
       starts : (v es : List (List ℕ)) → Terms 1 v → here s at h ∷ elements (drop (at + 1 + body (get_or s at 0)) s) ≡ v ++ es → ⊥
-      starts v es (symbol {e = x} t r) q =
-          let i : here s at h ≡ x = cc in
-          let k : kind x ≡ get_or s at 0 = sym (ap kind i) ∙ kind_here s at h in
-          let y : is_symbol (get_or s at 0 ∷ []) ≡ true = rw k at (T_true (is_symbol x) t) in
-          never (cc)
+      starts v es (symbol {e = x} t r) q = never (let y = kind_told x t (cc) in cc)
       starts v es (bracket r r' q') q = n4 (let i : here s at h ≡ 4 ∷ [] = cc in sym (kind_here s at h) ∙ ap kind i)
 
 pub no_symbol_end : (s : List ℕ) (at : ℕ) → length s ≤ at → SymbolEnd s at None

@@ -1,9 +1,7 @@
 use mathlib.Core.Path.{sym, ◌∙◌}
-use mathlib.Core.List.{◌∷◌, []}
 use native.Mathlib.Omega.{arith}
-use Rattle.meaning.proofs.Truth.{true_T}
 use Rattle.elements.specs.Reading.{symbol_at}
-use Rattle.elements.proofs.Places.{behind, no_symbol_end, no_symbol_here, symbol_here, symbol_kind}
+use Rattle.elements.proofs.Places.{no_symbol_end, no_symbol_here, symbol_told}
 use Rattle.elements.proofs.symbol_end.Goals as goal
 
 pub returns-in_err-k : goal.returns-in_err-k
@@ -14,10 +12,9 @@ pub returns-then-is_symbol : goal.returns-then-is_symbol
 returns-then-is_symbol c =
     let (h, d) = c.in_ok-k.ensures.lookup.3 in
     let e = d 0 in
-    let t = rw e at (sym c.is_symbol.ensures ∙ c.if-is_symbol.true) in
-    let k = symbol_kind (_ ∷ []) (true_T _ t) in
-    let (t, p) = symbol_here c.args.s.now c.args.at h c.requires.balanced (λ e. omega (arith, k, e)) (λ e. omega (arith, k, e)) in
-    rw (behind c.args.at _ (rw e at c.length_of.ensures.0)) (symbol_at t p)
+    let is = rw e at (sym c.is_symbol.ensures ∙ c.if-is_symbol.true) in
+    let (t, p) = symbol_told c.args.s.now c.args.at h c.requires.balanced is (rw e at c.length_of.ensures.0) in
+    symbol_at t p
 
 pub returns-else-is_symbol : goal.returns-else-is_symbol
 returns-else-is_symbol c =

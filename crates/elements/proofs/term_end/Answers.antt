@@ -1,10 +1,8 @@
 use mathlib.Core.Path.{sym, ◌∙◌}
-use mathlib.Core.List.{◌∷◌, []}
 use Rattle.elements.proofs.Levels.{shutting_here, bracketed}
-use Rattle.elements.proofs.Places.{behind, no_term_end, no_term_here, symbol_here, symbol_kind}
+use Rattle.elements.proofs.Places.{no_term_end, no_term_here, symbol_told}
 use Rattle.elements.specs.Reading.{term_at}
 use Rattle.meaning.specs.Matching.{symbol, stop}
-use Rattle.meaning.proofs.Truth.{true_T}
 use native.Mathlib.Omega.{arith}
 use Rattle.elements.proofs.term_end.Goals as goal
 
@@ -16,10 +14,9 @@ pub returns-then-is_symbol : goal.returns-then-is_symbol
 returns-then-is_symbol c =
     let (h, d) = c.in_ok-k.ensures.lookup.3 in
     let e = d 0 in
-    let t = rw e at (sym c.is_symbol.ensures ∙ c.if-is_symbol.true) in
-    let k = symbol_kind (_ ∷ []) (true_T _ t) in
-    let (t, p) = symbol_here c.args.s.now c.args.at h c.requires.balanced (λ e. omega (arith, k, e)) (λ e. omega (arith, k, e)) in
-    rw (behind c.args.at _ (rw e at c.length_of.ensures.0)) (term_at (symbol t stop) p)
+    let is = rw e at (sym c.is_symbol.ensures ∙ c.if-is_symbol.true) in
+    let (t, p) = symbol_told c.args.s.now c.args.at h c.requires.balanced is (rw e at c.length_of.ensures.0) in
+    term_at (symbol t stop) p
 
 pub shut_end-requires : goal.shut_end-requires
 shut_end-requires c =
